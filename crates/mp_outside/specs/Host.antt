@@ -1,0 +1,14 @@
+-- The counts of the host's files and streams.
+use Rattle.std.specs.Prelude.{ℕ, List}
+use Rattle.mp_outside.specs.declared.host.files.HostFiles.{HostFiles}
+use Rattle.mp_outside.specs.declared.host.sink.HostSink.{HostSink}
+
+-- one count of reads and one of writes serve all names
+abbrev pub read_count : HostFiles → List ℕ → ℕ
+read_count f name = f.failed_reads
+
+abbrev pub write_count : HostFiles → List ℕ → ℕ
+write_count f name = f.failed_writes
+
+abbrev pub sink_faults : {W : Type 0} → HostSink W → ℕ
+sink_faults s = s.failed_writes
