@@ -1,0 +1,4 @@
+pub mod Stepping
+mod Multiples
+mod Grids
+mod Loops

@@ -1,0 +1,11 @@
+mod Keys
+mod Ranking
+mod Apart
+mod Strict
+mod Sorting
+mod Least
+mod Past
+mod Facts
+mod Stretching
+mod Positions
+mod Rows

@@ -1,0 +1,7 @@
+use Rattle.std.proofs.Common.{◌++◌}
+use Rattle.template_order.specs.Keys.{AreLeast, plane, keys_of}
+use Rattle.template_order.specs.Reach.{radii_of}
+use Rattle.template_order.proofs.order.offer_plane.Given as goal
+
+abbrev pub invariant-loop-j : goal.invariant-loop-j
+invariant-loop-j l = AreLeast l.count (l.initial.keys.items ++ keys_of (radii_of l.reach) (plane (radii_of l.reach) l.i l.j)) l.keys.items
