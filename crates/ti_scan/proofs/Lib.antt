@@ -1,0 +1,13 @@
+pub mod RisingLemmas
+pub mod Counting
+pub mod Totals
+pub mod Greatest
+pub mod Stands
+pub mod Marking
+pub mod Spans
+pub mod Shifting
+pub mod Eroding
+pub mod Blocks
+pub mod Whole
+pub mod Adding
+pub mod Finding
