@@ -1,0 +1,4 @@
+pub mod Data
+pub mod Logs
+pub mod Unknown
+pub mod Fronts

@@ -1,0 +1,81 @@
+// The known template cells around a node.
+ghost use Rattle.std.specs.Prelude.{◌≡◌, ◌<◌, ◌≤◌, length};
+ghost use Rattle.mp_base.specs.Grid.{cells_of, cat_at, cat_of};
+ghost use Rattle.ti_scan.specs.Event.{IsEvent};
+ghost use Rattle.event_retrieve.specs.Plan.{IsFront, data_by, grid_at, known};
+
+use crate::plan::LevelPlan;
+use mp_base::{Cat, CellId, Entry, Grid, Vector};
+use ti_scan::{Datum, Event, cat_from};
+
+/// The known template cells around a cell of a grid, in template order.
+pub fn event_on(grid: &Grid, vectors: &[Vector], cell: CellId) -> Event
+    requires cell { cell < cells_of grid.now.sides }
+    requires short { length vectors.now ≤ 64 }
+    ensures data_ { result ≡ data_by (λ _ v. cat_at grid.now cell v) vectors.now }
+    ensures event { IsEvent (length vectors.now) result }
+{
+    let mut event = Event::empty();
+    for (i, v) in vectors.iter().enumerate() {
+        if let Some(cat) = cat_from(grid, cell, *v) {
+            event.push(Datum {
+                position: i as u8 + 1,
+                cat,
+            });
+        }
+    }
+    event
+}
+
+/// The known event of a path node once the entries of the log are set: the template cells around it
+/// that are known at the start or have an entry, in template order. The log has the first nodes of
+/// the path. No grid is copied.
+pub fn known_event(plan: &LevelPlan<'_>, index: u32, log: &[Entry]) -> Event
+    requires index { index < length plan.now.path }
+    requires front { IsFront plan.now log.now }
+    ensures data_ { result ≡ known plan.now log.now (length log.now) index }
+    ensures event { IsEvent (length plan.now.source.template) result }
+{
+    let cell = plan.cell_of(index);
+    let vectors = plan.eroded().template().vectors();
+    let mut event = Event::empty();
+    for (i, v) in vectors.iter().enumerate() {
+        if let Some(cat) = cat_near(plan, log, cell, *v) {
+            event.push(Datum {
+                position: i as u8 + 1,
+                cat,
+            });
+        }
+    }
+    event
+}
+
+// The category at a vector from a cell once the log's entries are set.
+fn cat_near(plan: &LevelPlan<'_>, log: &[Entry], cell: CellId, v: Vector) -> Option<Cat>
+    requires cell { cell < cells_of plan.now.start.sides }
+    requires front { IsFront plan.now log.now }
+    ensures { result ≡ cat_at (grid_at plan.now log.now (length log.now)) cell v }
+{
+    match plan.start().shape().step(cell, v) {
+        Some(other) => cat_after(plan, log, other),
+        None => None,
+    }
+}
+
+// The category of a cell once the log's entries are set.
+fn cat_after(plan: &LevelPlan<'_>, log: &[Entry], cell: CellId) -> Option<Cat>
+    requires cell { cell < cells_of plan.now.start.sides }
+    requires front { IsFront plan.now log.now }
+    ensures { result ≡ cat_of (grid_at plan.now log.now (length log.now)).cells cell }
+{
+    let at_start = plan.start().get(cell);
+    if at_start.is_some() {
+        return at_start;
+    }
+    let rank = plan.rank_of(cell)? as usize;
+    if rank < log.len() {
+        Some(log[rank].cat)
+    } else {
+        None
+    }
+}

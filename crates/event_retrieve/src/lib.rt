@@ -1,0 +1,15 @@
+//! The plan of a level, the known event of a path node, the part of it that is retained, and the
+//! category that is drawn by it.
+#![tactic(auto)]
+
+mod drawing;
+mod known;
+mod plan;
+mod retrieval;
+#[cfg(test)]
+mod tests;
+
+pub use drawing::draw;
+pub use known::{event_on, known_event};
+pub use plan::{LevelPlan, PlanError};
+pub use retrieval::{Retained, retain};
