@@ -1,0 +1,51 @@
+use Rattle.std.proofs.Common.{arith, ◌≡◌, ◌<◌, ◌+◌, ◌∙◌, ◌++◌, ◌∷◌, [], sym, ap, length, Some, set}
+use Rattle.mp_base.specs.Grid.{field, Field}
+use Rattle.event_retrieve.specs.Plan.{cats_in, grid_at}
+use Rattle.event_retrieve.specs.Sequential.{log_of, entry_after}
+use Rattle.event_retrieve.proofs.Logs.{log_of_more, length-log_of}
+use Rattle.seq_engine.proofs.LogLemmas.{grid_at-push, unknown_at_turn, length-grid_at}
+use Rattle.mp_base.specs.declared.cell.Entry.{Entry}
+use Rattle.std.proofs.lemmas.List.Elements.{All-push}
+use Rattle.seq_engine.proofs.level.run_level.Goals as goal
+
+pub loop-i-init : goal.loop-i-init
+unfolding log_of
+loop-i-init g c =
+    let start : c.in_ok-now.now ≡ c.args.plan.now.start = c.in_ok-now.ensures ∙ c.start.ensures.start in
+    record {
+      log = c.in_ok-log.ensures.items;
+      now = start;
+      cats = rw c.in_ok-log.ensures.items (λ k d in_list. absurd (omega arith));
+      known = c.start_counts-known.ensures ∙ ap (λ (g : Field). cats_in c.args.plan.now.source.cats g.cells) (sym start);
+    }
+
+pub commit-requires-clause-cell : goal.commit-requires-clause-cell
+commit-requires-clause-cell g c =
+    let p = c.args.plan.now in
+    rw (c.next_entry-entry.ensures.cell, c.loop-i.invariant.now)
+    (omega (arith, length-grid_at p c.loop-i.log.items c.loop-i.i, c.start.ensures.plan.path.inside c.loop-i.i (omega (arith, c.loop-i-test.true, c.length-i-end.ensures.value))))
+
+pub commit-requires-clause-unknown : goal.commit-requires-clause-unknown
+commit-requires-clause-unknown g c =
+    let p = c.args.plan.now in
+    rw (c.next_entry-entry.ensures.cell, c.loop-i.invariant.now, c.loop-i.invariant.log)
+    (unknown_at_turn p c.loop-i.i c.start.ensures.plan.path (omega (arith, c.loop-i-test.true, c.length-i-end.ensures.value)))
+
+pub loop-i-preserved : goal.loop-i-preserved
+loop-i-preserved g c =
+    let p = c.args.plan.now in
+    let i = c.loop-i.i in
+    let log = c.loop-i.log.items in
+    let e = c.next_entry-entry.result in
+    let is : e ≡ entry_after p (log_of p i) i =
+    c.next_entry-entry.ensures.entry ∙ ap (λ l. entry_after p l i) (c.as_slice.ensures.value ∙ c.loop-i.invariant.log) in
+    let items : c.push.new.self.items ≡ log ++ e ∷ [] = c.in_ok-push.ensures.items in
+    record {
+      log =
+          items ∙ ap (λ l. l ++ e ∷ []) c.loop-i.invariant.log ∙ ap (λ x. log_of p i ++ x ∷ []) is ∙ sym (log_of_more p i);
+      now =
+          c.commit.ensures.now ∙ ap (λ g. field g.sides (set g.cells e.cell (Some e.cat))) c.loop-i.invariant.now
+          ∙ sym (grid_at-push p log e i (ap length c.loop-i.invariant.log ∙ length-log_of p i)) ∙ ap (λ l. grid_at p l (i + 1)) (sym items);
+      cats = rw items (All-push (λ (x : Entry). x.cat < p.source.cats) log e c.loop-i.invariant.cats c.next_entry-entry.ensures.cat);
+      known = c.commit.ensures.known ∙ ap (λ n. cats_in n c.commit.new.now.cells) (c.cats-cats.ensures ∙ ap (λ s. s.cats) c.eroded.ensures.source);
+    }

@@ -1,0 +1,13 @@
+use Rattle.std.proofs.Common.{◌≡◌, ◌<◌}
+use Rattle.std.specs.List.{All}
+use Rattle.event_retrieve.specs.Plan.{grid_at, cats_in}
+use Rattle.event_retrieve.specs.Sequential.{log_of}
+use Rattle.seq_engine.proofs.level.run_level.Given as goal
+
+abbrev pub invariant-loop-i : goal.invariant-loop-i
+invariant-loop-i g l = record {
+  log : l.log.items ≡ log_of l.plan l.i;
+  now : l.now ≡ grid_at l.plan l.log.items l.i;
+  cats : All (λ e. e.cat < l.plan.source.cats) l.log.items;
+  known : l.known ≡ cats_in l.plan.source.cats l.now.cells;
+}

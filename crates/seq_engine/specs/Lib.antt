@@ -1,0 +1,4 @@
+pub mod Setup
+pub mod Realisation
+pub mod Runs
+pub mod Errors

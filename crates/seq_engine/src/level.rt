@@ -1,0 +1,73 @@
+// The sequential simulation of a level.
+ghost use Rattle.std.specs.Prelude.{◌≡◌, ◌<◌, ◌≤◌, length, slice_set, Some, None, IfOk, All};
+ghost use Rattle.mp_base.specs.Grid.{cat_of, field};
+ghost use Rattle.ti_scan.specs.Event.{StandsFor};
+ghost use Rattle.event_retrieve.specs.Plan.{grid_at, cats_in, cell_of};
+ghost use Rattle.event_retrieve.specs.Sequential.{sequential, entry_after};
+
+use event_retrieve::{LevelPlan, draw, event_on, retain};
+use mp_base::{Counts, Entry, Grid, NoMemory};
+use std::alloc::Global;
+use ti_scan::CountStore;
+
+/// Node after node of the path, the entry of each from the known nodes before it: the sequential
+/// simulation of a level (Strebelle 2002).
+pub fn run_level<S: CountStore>(
+    alloc: Global,
+    plan: &LevelPlan<'_>,
+    store: &S,
+) -> Result<Vec<Entry>, NoMemory>
+    requires { StandsFor S.gives S.reaches store.now plan.now.source }
+    ensures log { IfOk result (λ log. log.items ≡ sequential plan.now) }
+    ensures cats { IfOk result (λ log. All (λ e. e.cat < plan.now.source.cats) log.items) }
+{
+    let cats = plan.eroded().cats();
+    let mut now = plan.start().copy(alloc)?;
+    let mut known = plan.start_counts();
+    let mut log = Vec::with_capacity(alloc, plan.length() as usize)?;
+    for i in 0..plan.length() {
+        let entry = next_entry(plan, store, log.as_slice(), &now, &known, i);
+        commit(&mut now, &mut known, &entry, cats);
+        log.push(entry)?;
+    }
+    Ok(log)
+}
+
+// The entry of a path node, by the entries before it and by the grid that they make.
+fn next_entry<S: CountStore>(
+    plan: &LevelPlan<'_>,
+    store: &S,
+    log: &[Entry],
+    now: &Grid,
+    known: &Counts,
+    index: u32,
+) -> Entry
+    requires store { StandsFor S.gives S.reaches store.now plan.now.source }
+    requires index { index < length plan.now.path }
+    requires now { now.now ≡ grid_at plan.now log.now index }
+    requires known { known.now ≡ cats_in plan.now.source.cats now.now.cells }
+    ensures entry { result ≡ entry_after plan.now log.now index }
+    ensures cell { result.cell ≡ cell_of plan.now index }
+    ensures cat { result.cat < plan.now.source.cats }
+{
+    let cell = plan.cell_of(index);
+    let vectors = plan.eroded().template().vectors();
+    let kept = retain(plan, &event_on(now, vectors, cell), store);
+    let cat = draw(plan, index, &kept.counts, known);
+    Entry { cell, cat }
+}
+
+// Sets a cell that was unknown, and counts its category.
+fn commit(now: &mut Grid, known: &mut Counts, entry: &Entry, cats: u8)
+    requires cats { cats ≤ 8 }
+    requires cell { entry.now.cell < length now.old.cells }
+    requires unknown { cat_of now.old.cells entry.now.cell ≡ None }
+    requires cat { entry.now.cat < cats }
+    requires known { known.old ≡ cats_in cats now.old.cells }
+    ensures now { now.new ≡ field now.old.sides (slice_set now.old.cells entry.now.cell (Some entry.now.cat)) }
+    ensures known { known.new ≡ cats_in cats now.new.cells }
+{
+    let _ = now.shape();
+    now.set(entry.cell, Some(entry.cat));
+    known.add_one(entry.cat);
+}

@@ -1,0 +1,19 @@
+//! The simulation of realisations on one thread: node after node of a level, each from the nodes
+//! before it.
+#![tactic(auto)]
+
+mod level;
+mod positions;
+mod realisation;
+#[cfg(test)]
+mod recount;
+mod runner;
+mod setup;
+#[cfg(test)]
+mod tests;
+
+pub use level::run_level;
+pub use positions::check_positions;
+pub use realisation::run_realisation;
+pub use runner::{LevelRunner, OneThread, StoreKind};
+pub use setup::{RunError, Setup};
