@@ -1,0 +1,5 @@
+pub mod Cutting
+pub mod Categories
+pub mod Fronts
+pub mod Judging
+pub mod Digit

@@ -1,0 +1,22 @@
+//! Tables in the simplified GEO-EAS form: a title, the number of variables, their names, and rows of
+//! numbers. Training images and points with a category are read from such tables.
+#![tactic(auto)]
+
+mod fault;
+mod fields;
+mod image;
+mod line;
+mod number;
+mod progress;
+mod read;
+mod row;
+mod want;
+
+pub use fault::{TableError, TableFault};
+pub use image::image_from_table;
+pub use read::read_table;
+pub use row::{Row, Rows, Table};
+pub use want::Want;
+
+#[cfg(test)]
+mod tests;
