@@ -1,0 +1,9 @@
+pub mod Text
+pub mod Values
+pub mod Table
+pub mod Lines
+pub mod Params
+pub mod View
+pub mod Parts
+pub mod Reading
+pub mod Printing

@@ -1,0 +1,83 @@
+-- The text of parameters.
+use Rattle.std.specs.Prelude.{ℕ, List, [], ◌∷◌, ◌++◌, pos, Option, Some, option_map, codes}
+use Rattle.std.specs.Fmt.{signed_decimal}
+use Rattle.std.specs.List.{filter_map, flat_map}
+use Rattle.mp_base.specs.Grid.{Sides}
+use Rattle.mp_base.specs.Number.{micro_text}
+use Rattle.mp_params.specs.declared.store.StoreChoice.{StoreChoice}
+use Rattle.mp_params.specs.declared.store.StoreChoice.TheVariants.{Tree, List as Listed}
+use Rattle.mp_params.specs.declared.table.Key.{Key}
+use Rattle.mp_params.specs.declared.table.Key.TheVariants.{Version, Image, ImageShape, ImageColumn, Categories, Missing, Grid, Origin, Size, Points, PointColumns, Radii, Template, MaxData, MinReplicates, Levels, Servo, Targets, Seed, Realisations, Store, Window, Output}
+use Rattle.mp_params.specs.declared.table.TheConstants.{KEYS}
+use Rattle.mp_params.specs.Lines.{Entry}
+use Rattle.mp_params.specs.Params.{ParamsValue}
+use Rattle.mp_params.specs.Table.{key_name}
+
+abbrev pub number_text : ℕ → List ℕ
+number_text n = signed_decimal (pos n)
+
+-- the texts of some values, each behind a space
+abbrev pub behind_spaces : {X : Type 0} → (X → List ℕ) → List X → List ℕ
+behind_spaces text xs = flat_map (λ x. 32 ∷ text x) xs
+
+-- the texts of some values, with a space between each two
+abbrev pub spaced : {X : Type 0} → (X → List ℕ) → List X → List ℕ
+spaced text [] = []
+spaced text (x ∷ xs) = text x ++ behind_spaces text xs
+
+abbrev pub sides_text : Sides → List ℕ
+sides_text s = spaced number_text (s.nx ∷ s.ny ∷ s.nz ∷ [])
+
+abbrev pub store_text : StoreChoice → List ℕ
+store_text Tree = codes "tree"
+store_text Listed = codes "list"
+
+-- the text of a key's value, if it has one
+abbrev pub value_text : ParamsValue → Key → Option (List ℕ)
+value_text p Version = Some (number_text p.version)
+value_text p Image = Some p.image
+value_text p ImageShape = Some (sides_text p.image_shape)
+value_text p ImageColumn = Some (number_text p.image_column)
+value_text p Categories = Some (spaced signed_decimal p.categories)
+value_text p Missing = Some (signed_decimal p.missing)
+value_text p Grid = Some (sides_text p.grid)
+value_text p Origin = Some (spaced micro_text p.origin)
+value_text p Size = Some (spaced micro_text p.size)
+value_text p Points = p.points
+value_text p PointColumns = Some (spaced number_text p.point_columns)
+value_text p Radii = Some (spaced number_text p.radii)
+value_text p Template = Some (number_text p.template)
+value_text p MaxData = Some (number_text p.max_data)
+value_text p MinReplicates = Some (number_text p.min_replicates)
+value_text p Levels = Some (number_text p.levels)
+value_text p Servo = Some (number_text p.servo)
+value_text p Targets = option_map (spaced number_text) p.targets
+value_text p Seed = Some (number_text p.seed)
+value_text p Realisations = Some (number_text p.realisations)
+value_text p Store = Some (store_text p.store)
+value_text p Window = Some (number_text p.window)
+value_text p Output = Some p.output
+
+-- the entry of a key, if it has a value
+abbrev pub entry_for : ParamsValue → Key → Option Entry
+entry_for p k = option_map (λ t. record { name = key_name k; text = t }) (value_text p k)
+
+-- the entries that are printed
+abbrev pub entries_for : ParamsValue → List Key → List Entry
+entries_for p keys = filter_map (entry_for p) keys
+
+-- a key, ` = ` and a value
+abbrev pub line_text : Entry → List ℕ
+line_text e = e.name ++ (codes " = " ++ e.text)
+
+-- the same with the line's end
+abbrev pub ended_line : Entry → List ℕ
+ended_line e = line_text e ++ (10 ∷ [])
+
+-- the lines of these keys
+abbrev pub lines_text : ParamsValue → List Key → List ℕ
+lines_text p keys = flat_map ended_line (entries_for p keys)
+
+-- the text of parameters: the lines of all keys, in the order of the table
+unfoldable pub print_text : ParamsValue → List ℕ
+print_text p = lines_text p KEYS

@@ -1,0 +1,159 @@
+// The settings of a file: its lines, judged one after another.
+ghost use Rattle.std.specs.Prelude.{◌≡◌, ◌++◌, ◌≤◌, OnOk, is_some, option_map, length};
+ghost use Rattle.std.specs.List.{list_all, list_any};
+ghost use Rattle.std.specs.Option.{option_to_list};
+ghost use Rattle.mp_params.specs.Lines.{Gives, entry_in, entry_of, given, is_equals, is_key_byte, is_key_text, is_setting, is_skipped, key_fault, line_fault, settings_of, unless};
+ghost use Rattle.mp_params.specs.Table.{key_of as key_named};
+ghost use Rattle.mp_params.specs.Text.{lines_of};
+
+use crate::fault::{ParamsError, ParamsFault};
+use crate::table::key_of;
+use crate::text::{are_line_bytes, behind, first_line, from_visible, place_of, trimmed};
+use crate::values::fits;
+use mp_base::NoMemory;
+use std::alloc::Global;
+use std::marker::Model;
+
+/// A line's setting: the name of a key, and the text of its value.
+#[derive(Drop)]
+pub struct Setting<'a> {
+    name: &'a [u8],
+    text: &'a [u8],
+}
+
+impl<'a> Model for Setting<'a> {
+    ghost use Rattle.mp_params.specs.Lines.{Entry};
+
+    ghost Value = { Entry };
+
+    ghost view = { λ s. record { name = s.name.now; text = s.text.now } };
+}
+
+/// The settings of a file, or the fault of its first line that has one.
+pub fn settings(alloc: Global, file: &[u8]) -> Result<Vec<Setting<'_>>, ParamsError>
+    requires { length file.now ≤ 65536 }
+    ensures { Gives (λ v. v.items) result (settings_of (lines_of file.now)) }
+{
+    let mut settings = Vec::new(alloc);
+    let mut rest = file;
+    let mut number = 0;
+    while let Some((line, more)) = first_line(rest) {
+        number += 1;
+        match judged(number, &settings, line) {
+            Ok(setting) => add(&mut settings, setting)?,
+            Err(fault) => return Err(ParamsError::Fault(fault)),
+        }
+        rest = more;
+    }
+    Ok(settings)
+}
+
+/// The text that the settings give a name.
+pub fn given<'a>(settings: &[Setting<'a>], name: &[u8]) -> Option<&'a [u8]>
+    ensures { option_map (λ t. t.now) result ≡ given settings.now name.now }
+{
+    for setting in settings {
+        if setting.name == name {
+            return Some(setting.text);
+        }
+    }
+    None
+}
+
+// Adds a setting, if there is one.
+fn add<'a>(settings: &mut Vec<Setting<'a>>, setting: Option<Setting<'a>>) -> Result<(), NoMemory>
+    ensures { OnOk result (settings.new.items ≡ settings.old.items ++ option_to_list setting.entry) }
+{
+    if let Some(setting) = setting {
+        settings.push(setting)?;
+    }
+    Ok(())
+}
+
+// The setting of a line behind others, if it isn't skipped, or the line's fault.
+#[tactic(auto, unfolding(crate::specs::Lines::line_fault, crate::specs::Lines::entry_of))]
+fn judged<'a>(
+    number: u32,
+    earlier: &[Setting<'_>],
+    line: &'a [u8],
+) -> Result<Option<Setting<'a>>, ParamsFault>
+    ensures { result ≡ unless (line_fault number earlier.now line.now) (entry_of line.now) }
+{
+    if is_skipped(line) {
+        return Ok(None);
+    }
+    let setting = setting_in(line);
+    if !is_setting(line, &setting) {
+        return Err(ParamsFault::BadLine { line: number });
+    }
+    if let Some(fault) = key_fault(number, earlier, &setting) {
+        return Err(fault);
+    }
+    Ok(Some(setting))
+}
+
+// The fault of a line's key or value, behind other settings.
+fn key_fault(number: u32, earlier: &[Setting<'_>], setting: &Setting<'_>) -> Option<ParamsFault>
+    ensures { result ≡ key_fault number earlier.now setting.now (key_named setting.now.name) }
+{
+    let Some(key) = key_of(setting.name) else {
+        return Some(ParamsFault::UnknownKey { line: number });
+    };
+    if given(earlier, setting.name).is_some() {
+        return Some(ParamsFault::Twice { line: number });
+    }
+    if !fits(key.form(), setting.text) {
+        return Some(ParamsFault::BadValue { line: number });
+    }
+    None
+}
+
+// What stands before the first `=` and after it.
+fn setting_in(line: &[u8]) -> Setting<'_>
+    ensures { result ≡ entry_in line.now }
+{
+    let place = place_of(line, b'=');
+    Setting {
+        name: trimmed(&line[..place]),
+        text: trimmed(behind(line, place)),
+    }
+}
+
+// Whether a line has the bytes of a setting, a `=`, and a key's name before it.
+fn is_setting(line: &[u8], setting: &Setting<'_>) -> bool
+    requires { setting.now ≡ entry_in line.now }
+    ensures { result ≡ is_setting line.now }
+{
+    are_line_bytes(line) && line.contains(&b'=') && is_key_text(setting.name)
+}
+
+// Whether a text looks like the name of a key.
+fn is_key_text(text: &[u8]) -> bool
+    ensures { result ≡ is_key_text text.now }
+{
+    1 <= text.len() && are_key_bytes(text)
+}
+
+// Whether a key's name may have these bytes.
+fn are_key_bytes(text: &[u8]) -> bool
+    ensures { result ≡ list_all is_key_byte text.now }
+{
+    text.iter().all(|byte| is_key_byte(*byte))
+}
+
+// Whether a key's name may have this byte.
+fn is_key_byte(byte: u8) -> bool
+    ensures { result ≡ is_key_byte byte }
+{
+    byte.is_ascii_lowercase() || byte == b'_'
+}
+
+// Whether a line has blanks alone, or begins a remark.
+fn is_skipped(line: &[u8]) -> bool
+    ensures { result ≡ is_skipped line.now }
+{
+    match from_visible(line) {
+        [] => true,
+        [first, ..] => *first == b'#',
+    }
+}
