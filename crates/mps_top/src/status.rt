@@ -1,0 +1,32 @@
+// The exit status of an answer.
+ghost use Rattle.std.specs.Prelude.{◌≡◌};
+ghost use Rattle.mps_top.specs.Status.{status_of, status_of_fault};
+
+use crate::fault::{Fault, Part};
+
+/// The status of an answer: 0, or the number of its fault.
+pub fn status(answer: &Result<(), Fault>) -> u8
+    ensures { result ≡ status_of answer.now }
+{
+    match answer {
+        Ok(()) => 0,
+        Err(fault) => fault_status(fault),
+    }
+}
+
+/// The number of a fault.
+pub fn fault_status(fault: &Fault) -> u8
+    ensures { result ≡ status_of_fault fault.now }
+{
+    match fault {
+        Fault::Usage => 1,
+        Fault::NotBuilt {
+            part: Part::Parameters,
+        } => 2,
+        Fault::CannotRead { .. } => 3,
+        Fault::CannotWrite { .. } => 4,
+        Fault::NotBuilt { part: Part::Image } => 5,
+        Fault::TooFewPositions { .. } => 7,
+        Fault::OutOfMemory => 8,
+    }
+}
