@@ -44,7 +44,7 @@ chosen true x y z is = inl (refl, is)
 chosen false x y z is = inr (refl, is)
 
 -- what is accepted passed the test
-passed : {A : Type 0} (b : Bool) (fault : TableFault) (r : Result A TableFault) (x : A) → cond b (Err fault) r ≡ Ok x → (b ≡ false) × (r ≡ Ok x)
+pub passed : {A : Type 0} (b : Bool) (fault : TableFault) (r : Result A TableFault) (x : A) → cond b (Err fault) r ≡ Ok x → (b ≡ false) × (r ≡ Ok x)
 passed true fault r x is = absurd (cc is)
 passed false fault r x is = (refl, is)
 

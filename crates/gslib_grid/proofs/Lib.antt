@@ -3,3 +3,4 @@ pub mod Categories
 pub mod Fronts
 pub mod Judging
 pub mod Digit
+pub mod Accepted
