@@ -48,6 +48,14 @@ impl Name {
         self.text.as_bytes()
     }
 
+    /// The name as text.
+    pub fn as_str(&self) -> &str
+        ensures text { result.now ≡ self.now }
+        ensures name { is_name result.now ≡ true }
+    {
+        self.text.as_str()
+    }
+
     /// The text as it was given.
     pub fn into_inner(self) -> String
         ensures { string_bytes result ≡ self }

@@ -153,7 +153,7 @@ pub fn run_part(alloc: Global, settings: &[Setting<'_>]) -> Result<RunPart, Para
 fn text_for<'a>(settings: &[Setting<'a>], key: Key) -> Option<&'a [u8]>
     ensures { option_map (λ t. t.now) result ≡ text_for key settings.now }
 {
-    match given(settings, key.name()) {
+    match given(settings, key.name().as_bytes()) {
         Some(text) => Some(text),
         None => key.default(),
     }

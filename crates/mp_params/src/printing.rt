@@ -45,7 +45,7 @@ fn push_line(to: &mut Vec<u8>, params: &Params, key: Key) -> Result<(), NoMemory
     if !has_value(params, key) {
         return Ok(());
     }
-    to.extend_from_slice(key.name())?;
+    to.extend_from_slice(key.name().as_bytes())?;
     to.extend_from_slice(b" = ")?;
     push_value(to, params, key)?;
     to.push(b'\n')?;

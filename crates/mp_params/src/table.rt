@@ -1,6 +1,6 @@
 // The table of keys: the order, the name of each, the form of its value, and the text of its
 // default. Another key is another line in each of the four lists here.
-ghost use Rattle.std.specs.Prelude.{◌≡◌, option_map};
+ghost use Rattle.std.specs.Prelude.{◌≡◌, ◌≤◌, length, option_map};
 ghost use Rattle.mp_params.specs.Table.{key_name, form_of, default_of, key_of};
 
 /// A key of a parameter file.
@@ -91,33 +91,34 @@ pub const KEYS: [Key; 23] = [
 
 impl Key {
     /// The name of the key in a file.
-    pub fn name(self) -> &'static [u8]
-        ensures { result.now ≡ key_name self }
+    pub fn name(self) -> &'static str
+        ensures name { result.now ≡ key_name self }
+        ensures short { length result.now ≤ 20 }
     {
         match self {
-            Key::Version => b"version",
-            Key::Image => b"image",
-            Key::ImageShape => b"image_shape",
-            Key::ImageColumn => b"image_column",
-            Key::Categories => b"categories",
-            Key::Missing => b"missing",
-            Key::Grid => b"grid",
-            Key::Origin => b"origin",
-            Key::Size => b"size",
-            Key::Points => b"points",
-            Key::PointColumns => b"point_columns",
-            Key::Radii => b"radii",
-            Key::Template => b"template",
-            Key::MaxData => b"max_data",
-            Key::MinReplicates => b"min_replicates",
-            Key::Levels => b"levels",
-            Key::Servo => b"servo",
-            Key::Targets => b"targets",
-            Key::Seed => b"seed",
-            Key::Realisations => b"realisations",
-            Key::Store => b"store",
-            Key::Window => b"window",
-            Key::Output => b"output",
+            Key::Version => "version",
+            Key::Image => "image",
+            Key::ImageShape => "image_shape",
+            Key::ImageColumn => "image_column",
+            Key::Categories => "categories",
+            Key::Missing => "missing",
+            Key::Grid => "grid",
+            Key::Origin => "origin",
+            Key::Size => "size",
+            Key::Points => "points",
+            Key::PointColumns => "point_columns",
+            Key::Radii => "radii",
+            Key::Template => "template",
+            Key::MaxData => "max_data",
+            Key::MinReplicates => "min_replicates",
+            Key::Levels => "levels",
+            Key::Servo => "servo",
+            Key::Targets => "targets",
+            Key::Seed => "seed",
+            Key::Realisations => "realisations",
+            Key::Store => "store",
+            Key::Window => "window",
+            Key::Output => "output",
         }
     }
 
@@ -178,5 +179,7 @@ impl Key {
 pub fn key_of(name: &[u8]) -> Option<Key>
     ensures { result ≡ key_of name.now }
 {
-    KEYS.iter().copied().find(|key| key.name() == name)
+    KEYS.iter()
+        .copied()
+        .find(|key| key.name().as_bytes() == name)
 }
