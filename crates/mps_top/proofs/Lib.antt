@@ -1,2 +1,10 @@
 pub mod Shares
+pub mod Ending
+pub mod Reading
+pub mod Serving
 pub mod Written
+pub mod Setups
+pub mod Codes
+pub mod Images
+pub mod Known
+pub mod Outcomes

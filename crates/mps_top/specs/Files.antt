@@ -1,20 +1,25 @@
 -- What was read of a file, and what was written to one.
-use Rattle.std.specs.Prelude.{◌≡◌, ◌⊎◌, ℕ, List, take, length, ◌<◌, Option, Some, None, Result, Ok, Err, IsSomeAnd, Vec}
+use Rattle.std.specs.Prelude.{◌≡◌, ◌⊎◌, ℕ, List, ◌++◌, take, Option, Some, Result, Ok, Err, IsSomeAnd, Vec}
 use Rattle.std.specs.declared.alloc.Global.{Global}
+use Rattle.mp_outside.specs.Contents.{IsReadUpTo}
 use Rattle.mps_top.specs.declared.fault.Fault.{Fault}
 use Rattle.mps_top.specs.declared.fault.Fault.TheVariants.{CannotWrite, OutOfMemory}
 use Rattle.mp_outside.specs.declared.files.OutFault.{OutFault}
 use Rattle.mp_outside.specs.declared.files.OutFault.TheVariants.{Failed, NoMemory}
 
--- what was read of a file, which is held: all its bytes, or nothing where there are more than the limit
-abbrev pub IsReadOf : Option (List ℕ) → ℕ → Option (Vec ℕ Global) → Type 0
-IsReadOf content limit None = IsSomeAnd content (λ bytes. limit < length bytes)
-IsReadOf content limit (Some got) = content ≡ Some got.items
+-- what was read of a file, which is held: all its bytes, or a part that is longer than the limit
+abbrev pub IsReadOf : Option (List ℕ) → ℕ → Vec ℕ Global → Type 0
+IsReadOf content limit got = IsSomeAnd content (λ bytes. IsReadUpTo limit bytes got.items)
 
 -- the text was written, or a front of it, or nothing was changed
 abbrev pub IsWritten : Option (List ℕ) → Option (List ℕ) → List ℕ → Result (Unit {0}) Fault → Type 0
 IsWritten before now text (Ok _) = now ≡ Some text
 IsWritten before now text (Err _) = (now ≡ before) ⊎ ((count : ℕ) × (now ≡ Some (take count text)))
+
+-- the text was added to `out`, or a front of it
+abbrev pub IsReported : List ℕ → List ℕ → List ℕ → Result (Unit {0}) Fault → Type 0
+IsReported before now text (Ok _) = now ≡ before ++ text
+IsReported before now text (Err _) = (count : ℕ) × (now ≡ before ++ take count text)
 
 -- why the output couldn't be written
 abbrev pub fault_of : List ℕ → OutFault → Fault

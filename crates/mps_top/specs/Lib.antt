@@ -1,6 +1,11 @@
 pub mod Words
-pub mod Names
+pub mod Chain
+pub mod Inputs
+pub mod Setup
+pub mod Texts
+pub mod Outcome
 pub mod Status
 pub mod Lines
+pub mod Seen
 pub mod Answers
 pub mod Files

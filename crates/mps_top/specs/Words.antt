@@ -2,6 +2,8 @@
 use Rattle.std.specs.Prelude.{ℕ, Bool, ◌&&◌, not, nat_lt, nat_le, ◌==◌, List, [], ◌∷◌, length, Option, Some, None, if◌then◌else◌, codes, slice_index}
 use Rattle.std.specs.List.{list_all}
 use Rattle.std.specs.Str.{bytes_eq}
+use Rattle.mps_top.specs.declared.words.Command.{Command}
+use Rattle.mps_top.specs.declared.words.Command.TheVariants.{Run, Check}
 
 -- from the space to the tilde
 abbrev pub is_name_byte : ℕ → Bool
@@ -15,7 +17,14 @@ is_name name = nat_lt 0 (length name) && nat_le (length name) 255 && list_all is
 abbrev pub is_option : List ℕ → Bool
 is_option word = slice_index word 0 == 45
 
--- the parameter file that a command names: the words are `run` and a name
-abbrev pub parameters_in : List (List ℕ) → Option (List ℕ)
-parameters_in (command ∷ name ∷ []) = if bytes_eq command (codes "run") && is_name name && not (is_option name) then Some name else None
-parameters_in _ = None
+abbrev pub is_file : List ℕ → Bool
+is_file word = is_name word && not (is_option word)
+
+-- the command of a first word that takes a parameter file alone
+abbrev pub command_over : List ℕ → List ℕ → Option Command
+command_over verb name = if bytes_eq verb (codes "run") then Some (Run name) else if bytes_eq verb (codes "check") then Some (Check name) else None
+
+-- the command that the words are, if they are one
+unfoldable pub command_of : List (List ℕ) → Option Command
+command_of (verb ∷ name ∷ []) = if is_file name then command_over verb name else None
+command_of _ = None

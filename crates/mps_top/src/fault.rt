@@ -2,6 +2,8 @@
 ghost use Rattle.std.specs.Prelude.{◌≡◌, ◌≤◌, length};
 
 use arrayvec::ArrayString;
+use gslib_grid::TableFault;
+use mp_params::ParamsFault;
 use std::marker::Model;
 
 /// The name of a file, of at most 255 bytes.
@@ -52,7 +54,6 @@ impl Name {
 #[derive(Clone, Copy, Debug, PartialEq, Eq)]
 pub enum Part {
     Parameters,
-    Image,
 }
 
 /// Why a command was refused or broke off. Each has its status and its line on standard error.
@@ -60,14 +61,20 @@ pub enum Part {
 pub enum Fault {
     /// The words are no command.
     Usage,
-    /// An input has a form that isn't built yet.
+    /// The parameter file isn't accepted.
+    Parameters(ParamsFault),
+    /// The parameters have a form that isn't built yet.
     NotBuilt { part: Part },
     /// A file couldn't be read.
     CannotRead { name: Name },
     /// The output file couldn't be written.
     CannotWrite { name: Name },
+    /// The table of the image isn't accepted.
+    Image(TableFault),
     /// The image has fewer eroded positions at a level than the replicates that are wanted.
     TooFewPositions { level: u8, have: u32, want: u32 },
     /// Memory ran out.
     OutOfMemory,
+    /// The text for `out` couldn't be written.
+    CannotReport,
 }

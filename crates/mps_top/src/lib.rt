@@ -1,19 +1,22 @@
-//! The commands: from words and files to an output file, a report and a status.
+//! The commands: from words and files to an output file, a text on `out`, a line on `err` and a
+//! status.
 #![tactic(auto)]
 
 mod answer;
+mod check;
 mod fault;
+mod files;
 mod inputs;
 mod line;
-mod lines;
-mod plain;
+mod positions;
 mod run;
-mod simulate;
+mod setup;
 mod status;
 #[cfg(test)]
 mod tests;
+mod texts;
 mod words;
 
-pub use answer::{answer_alone, refuse};
+pub use answer::{answer_alone, answer_in_memory, refuse};
 pub use fault::{Fault, Name, Part};
 pub use line::fault_line;

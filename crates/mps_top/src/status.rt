@@ -2,7 +2,7 @@
 ghost use Rattle.std.specs.Prelude.{◌≡◌};
 ghost use Rattle.mps_top.specs.Status.{status_of, status_of_fault};
 
-use crate::fault::{Fault, Part};
+use crate::fault::Fault;
 
 /// The status of an answer: 0, or the number of its fault.
 pub fn status(answer: &Result<(), Fault>) -> u8
@@ -20,13 +20,13 @@ pub fn fault_status(fault: &Fault) -> u8
 {
     match fault {
         Fault::Usage => 1,
-        Fault::NotBuilt {
-            part: Part::Parameters,
-        } => 2,
+        Fault::Parameters(_) => 2,
+        Fault::NotBuilt { .. } => 2,
         Fault::CannotRead { .. } => 3,
         Fault::CannotWrite { .. } => 4,
-        Fault::NotBuilt { part: Part::Image } => 5,
+        Fault::Image(_) => 5,
         Fault::TooFewPositions { .. } => 7,
         Fault::OutOfMemory => 8,
+        Fault::CannotReport => 9,
     }
 }

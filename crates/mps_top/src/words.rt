@@ -1,15 +1,27 @@
 // The words of a command.
-ghost use Rattle.std.specs.Prelude.{◌≡◌, ◌&&◌, map, not, option_map, string_bytes};
-ghost use Rattle.mps_top.specs.Words.{parameters_in, is_option, is_name as is_name_text};
+ghost use Rattle.std.specs.Prelude.{◌≡◌, ◌≤◌, map, length, string_bytes};
+ghost use Rattle.mps_top.specs.Words.{command_of as command_of_words, command_over as command_over_name, is_file as is_file_text, is_name as is_name_text};
 
-/// The parameter file that a command names, or nothing exactly where the words are no command.
-pub fn parameters_of(words: &[String]) -> Option<&str>
-    ensures { option_map (λ s. s.now) result ≡ parameters_in (map (λ w. string_bytes w) words.now) }
+use crate::fault::Name;
+
+/// A command, with what its words say.
+#[derive(Drop)]
+pub enum Command {
+    /// Simulates, and writes the realisations.
+    Run { parameters: Name },
+    /// Judges all inputs of a run, and tells what they are.
+    Check { parameters: Name },
+}
+
+/// The command that the words are, or nothing exactly where they are none.
+#[tactic(auto, unfolding(crate::specs::Words::command_of))]
+pub fn command_of(words: &[String]) -> Option<Command>
+    ensures { result ≡ command_of_words (map (λ w. string_bytes w) words.now) }
 {
     match words {
-        [command, name] => {
-            if command.as_str() == "run" && is_file(name.as_bytes()) {
-                Some(name.as_str())
+        [verb, name] => {
+            if is_file(name.as_bytes()) {
+                command_over(verb.as_str(), name.as_str())
             } else {
                 None
             }
@@ -18,9 +30,27 @@ pub fn parameters_of(words: &[String]) -> Option<&str>
     }
 }
 
+// The command of a first word that takes a parameter file alone.
+fn command_over(verb: &str, name: &str) -> Option<Command>
+    requires { length name.now ≤ 255 }
+    ensures { result ≡ command_over_name verb.now name.now }
+{
+    if verb == "run" {
+        Some(Command::Run {
+            parameters: Name::new(name),
+        })
+    } else if verb == "check" {
+        Some(Command::Check {
+            parameters: Name::new(name),
+        })
+    } else {
+        None
+    }
+}
+
 // A name of a file that doesn't begin with a dash.
 fn is_file(word: &[u8]) -> bool
-    ensures { result ≡ (is_name_text word.now && not (is_option word.now)) }
+    ensures { result ≡ is_file_text word.now }
 {
     is_name(word) && word[0] != b'-'
 }

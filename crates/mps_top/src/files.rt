@@ -1,0 +1,85 @@
+// The files that a command reads and writes, and its text for `out`.
+ghost use Rattle.std.specs.Prelude.{◌≡◌, ◌⊎◌, ◌≤◌, ◌^◌, [], length, IfErr, IfOk, IsTrue, Some};
+ghost use Rattle.mp_outside.specs.Causes.{Rose, NoneFell, SameCounts};
+ghost use Rattle.mp_outside.specs.Contents.{OnlyReads, OnlyHeldAt};
+ghost use Rattle.mps_top.specs.Files.{IsReadOf, IsReported, IsWritten, fault_of};
+
+use crate::fault::{Fault, Name};
+use mp_outside::{Files, OutFault, Sink, read_to_limit};
+use std::alloc::Global;
+
+/// Reads a file that the command names, to its end or until it has more bytes than the limit.
+pub fn read_file<F: Files>(
+    alloc: Global,
+    files: &mut F,
+    name: &str,
+    limit: u32,
+) -> Result<Vec<u8>, Fault>
+    requires limit { limit ≤ 2 ^ 28 }
+    requires name { length name.now ≤ 255 }
+    ensures read { IsTrue (F.tells files.old) → IfOk result (IsReadOf (F.held files.old name.now) limit) }
+    ensures cause { IfErr result (λ e. (e ≡ Fault.OutOfMemory) ⊎ ((e ≡ Fault.CannotRead name.now) × Rose (F.reads files.old name.now) (F.reads files.new name.now))) }
+    ensures only { OnlyReads F.tells F.held F.reads F.writes files.old files.new }
+{
+    match read_to_limit(alloc, files, name, limit) {
+        Ok(bytes) => Ok(bytes),
+        Err(OutFault::Failed) => Err(Fault::CannotRead {
+            name: Name::new(name),
+        }),
+        Err(OutFault::NoMemory) => Err(Fault::OutOfMemory),
+    }
+}
+
+/// Makes the output file, and writes its text in one piece.
+pub fn write_output<F: Files>(files: &mut F, name: &str, text: &[u8]) -> Result<(), Fault>
+    requires { length name.now ≤ 255 }
+    ensures written { IsTrue (F.tells files.old) → IsWritten (F.held files.old name.now) (F.held files.new name.now) text.now result }
+    ensures cause { IfErr result (λ e. (e ≡ Fault.OutOfMemory) ⊎ ((e ≡ Fault.CannotWrite name.now) × Rose (F.writes files.old name.now) (F.writes files.new name.now))) }
+    ensures others { OnlyHeldAt name.now (F.held files.old) (F.held files.new) }
+    ensures reads { SameCounts (F.reads files.old) (F.reads files.new) }
+{
+    match files.create(name) {
+        Ok(()) => append_output(files, name, text),
+        Err(fault) => Err(write_fault(name, fault)),
+    }
+}
+
+// Writes the text of the output file, which was made and is empty.
+fn append_output<F: Files>(files: &mut F, name: &str, text: &[u8]) -> Result<(), Fault>
+    requires short { length name.now ≤ 255 }
+    requires made { IsTrue (F.tells files.old) → F.held files.old name.now ≡ Some [] }
+    ensures written { IsTrue (F.tells files.old) → IsWritten (Some []) (F.held files.new name.now) text.now result }
+    ensures cause { IfErr result (λ e. (e ≡ Fault.OutOfMemory) ⊎ ((e ≡ Fault.CannotWrite name.now) × Rose (F.writes files.old name.now) (F.writes files.new name.now))) }
+    ensures others { OnlyHeldAt name.now (F.held files.old) (F.held files.new) }
+    ensures writes { NoneFell (F.writes files.old) (F.writes files.new) }
+    ensures reads { SameCounts (F.reads files.old) (F.reads files.new) }
+{
+    match files.append(name, text) {
+        Ok(()) => Ok(()),
+        Err(fault) => Err(write_fault(name, fault)),
+    }
+}
+
+fn write_fault(name: &str, fault: OutFault) -> Fault
+    requires { length name.now ≤ 255 }
+    ensures { result ≡ fault_of name.now fault }
+{
+    match fault {
+        OutFault::Failed => Fault::CannotWrite {
+            name: Name::new(name),
+        },
+        OutFault::NoMemory => Fault::OutOfMemory,
+    }
+}
+
+/// Writes the text for `out` in one piece.
+pub fn report<O: Sink>(out: &mut O, text: &[u8]) -> Result<(), Fault>
+    ensures written { IsTrue (O.tells out.old) → IsReported (O.written out.old) (O.written out.new) text.now result }
+    ensures cause { IfErr result (λ e. (e ≡ Fault.OutOfMemory) ⊎ ((e ≡ Fault.CannotReport) × Rose (O.faults out.old) (O.faults out.new))) }
+{
+    match out.write(text) {
+        Ok(()) => Ok(()),
+        Err(OutFault::Failed) => Err(Fault::CannotReport),
+        Err(OutFault::NoMemory) => Err(Fault::OutOfMemory),
+    }
+}
