@@ -122,7 +122,7 @@ impl Key {
         }
     }
 
-    // The form of the key's value.
+    /// The form that the key's value has to have.
     pub fn form(self) -> Form
         ensures { result ≡ form_of self }
     {
@@ -148,7 +148,8 @@ impl Key {
         }
     }
 
-    // The text of the value that stands where no line has the key, unless the key is required.
+    /// The text of the value that stands where no line has the key. Nothing where the key is
+    /// required, and where its value is optional.
     pub fn default(self) -> Option<&'static [u8]>
         ensures { option_map (λ t. t.now) result ≡ default_of self }
     {
@@ -175,7 +176,7 @@ impl Key {
     }
 }
 
-// The key of this name.
+/// The key of this name, or nothing where no key has it. Names are lowercase.
 pub fn key_of(name: &[u8]) -> Option<Key>
     ensures { result ≡ key_of name.now }
 {
