@@ -1,0 +1,7 @@
+mod Halves
+mod FirstNearest
+mod Places
+mod KeptRows
+mod KeptCells
+mod Nodes
+pub mod Known

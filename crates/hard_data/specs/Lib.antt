@@ -1,0 +1,4 @@
+pub mod Nearest
+pub mod Points
+pub mod Kept
+pub mod Start
