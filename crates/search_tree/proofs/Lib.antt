@@ -1,0 +1,16 @@
+pub mod Eroding
+pub mod Events
+pub mod Reading
+pub mod Sums
+pub mod Slots
+pub mod Numbering
+pub mod Tallies
+pub mod Walking
+pub mod Words
+pub mod Leaves
+pub mod Gains
+pub mod Source
+pub mod Pairs
+pub mod Step
+pub mod Whole
+pub mod Rows
