@@ -1,10 +1,16 @@
-//! The texts of a realisation file.
+//! The texts of a realisation file, and of the report of a run.
 #![tactic(auto)]
 
+mod facts;
 mod head;
+mod lines;
+mod report;
 mod rows;
 #[cfg(test)]
 mod tests;
 
+pub use facts::{LevelPositions, RealisationCounts};
 pub use head::push_head;
+pub use lines::{push_level_lines, push_points_line};
+pub use report::{Report, push_report};
 pub use rows::push_rows;

@@ -1,0 +1,54 @@
+-- The text of the report of a run, line by line.
+use Rattle.std.specs.Prelude.{ℕ, ◌++◌, ℤ, List, length, flat_map, reverse, codes}
+use Rattle.std.specs.Fmt.{decimal, signed_decimal}
+use Rattle.std.specs.List.{enumerate_from}
+use Rattle.mp_base.specs.Grid.{Sides}
+use Rattle.multigrid.specs.Levels.{nodes_of}
+use Rattle.realisation_out.specs.declared.report.Report.{Report}
+
+-- numbers, each behind a space
+abbrev pub spaced : List ℕ → List ℕ
+spaced numbers = flat_map (λ n. codes " " ++ decimal n) numbers
+
+-- codes, each behind a space
+abbrev pub spaced_codes : List ℤ → List ℕ
+spaced_codes categories = flat_map (λ code. codes " " ++ signed_decimal code) categories
+
+-- the codes of the categories, in the order of their indices
+abbrev pub categories_line : List ℤ → List ℕ
+categories_line categories = codes "categories" ++ (spaced_codes categories ++ codes "\n")
+
+-- the sides of the grid
+abbrev pub grid_line : Sides → List ℕ
+grid_line sides = codes "grid " ++ (decimal sides.nx ++ (codes " " ++ (decimal sides.ny ++ (codes " " ++ (decimal sides.nz ++ codes "\n")))))
+
+-- the points that there are, the cells that got a datum, and the points that were skipped
+abbrev pub points_line : ℕ → ℕ → ℕ → List ℕ
+points_line rows used skipped = codes "points " ++ (decimal rows ++ (codes " used " ++ (decimal used ++ (codes " skipped " ++ (decimal skipped ++ codes "\n")))))
+
+-- the parts of the target
+abbrev pub target_line : List ℕ → List ℕ
+target_line parts = codes "target" ++ (spaced parts ++ codes "\n")
+
+-- the nodes and the eroded positions of a level
+abbrev pub level_line : Sides → ℕ × ℕ → List ℕ
+level_line sides level =
+    codes "level " ++ (decimal level.0 ++ (codes " nodes " ++ (decimal (length (nodes_of sides level.0)) ++ (codes " positions " ++ (decimal level.1 ++ codes "\n")))))
+
+-- the line of each level, from the coarsest to the finest: the positions are by level, the finest first
+unfoldable pub level_lines : Sides → List ℕ → List ℕ
+level_lines sides positions = flat_map (level_line sides) (reverse (enumerate_from 1 positions))
+
+-- how many cells of a realisation have each category
+abbrev pub realisation_line : ℕ × List ℕ → List ℕ
+realisation_line realisation = codes "realisation " ++ (decimal realisation.0 ++ (codes " counts" ++ (spaced realisation.1 ++ codes "\n")))
+
+-- the line of each realisation, from 0
+unfoldable pub realisation_lines : List (List ℕ) → List ℕ
+realisation_lines counts = flat_map realisation_line (enumerate_from 0 counts)
+
+-- the whole report
+unfoldable pub report_text : Report → List ℕ
+report_text report =
+    categories_line report.codes.categories ++ (grid_line report.shape ++ (points_line report.rows report.used report.skipped ++ (target_line report.target
+    ++ (level_lines report.shape report.positions ++ (realisation_lines report.counts ++ codes "done\n")))))
