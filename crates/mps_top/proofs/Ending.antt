@@ -47,7 +47,7 @@ part_from : (before mid now : Held) (outcome : Result Done Fault) → SameHeld b
 part_from before mid now (Ok done) same holds = part_same before mid now done.output same holds
 part_from before mid now (Err fault) same holds = holds
 
-files_from : (before mid now : Held) (outcome : Result Done Fault) (answer : Result (Unit {0}) Fault) → SameHeld before mid → LeavesFiles outcome mid now answer → LeavesFiles outcome before now answer
+pub files_from : (before mid now : Held) (outcome : Result Done Fault) (answer : Result (Unit {0}) Fault) → SameHeld before mid → LeavesFiles outcome mid now answer → LeavesFiles outcome before now answer
 files_from before mid now outcome (Ok done) same left = whole_from before mid now outcome same left
 files_from before mid now outcome (Err CannotReport) same left = whole_from before mid now outcome same left
 files_from before mid now outcome (Err (CannotWrite name)) same left = part_from before mid now outcome same left
@@ -60,7 +60,7 @@ files_from before mid now outcome (Err fault) same left = λ name. left name ∙
 
 -- An outcome that is known where the files tell.
 
-out_from : (Told : Type 0) (outcome known : Result Done Fault) (before now : List ℕ) (answer : Result (Unit {0}) Fault) → (Told → outcome ≡ known) → LeavesOut Told known before now answer → LeavesOut Told outcome before now answer
+pub out_from : (Told : Type 0) (outcome known : Result Done Fault) (before now : List ℕ) (answer : Result (Unit {0}) Fault) → (Told → outcome ≡ known) → LeavesOut Told known before now answer → LeavesOut Told outcome before now answer
 out_from Told outcome known before now (Ok done) is left = λ told. subst (λ (o : Result Done Fault). IsOkAnd o (λ done. now ≡ before ++ done.out)) (sym (is told)) (left told)
 out_from Told outcome known before now (Err CannotReport) is left = λ told. subst (λ (o : Result Done Fault). IsOkAnd o (IsFront before now)) (sym (is told)) (left told)
 out_from Told outcome known before now (Err OutOfMemory) is left = either left

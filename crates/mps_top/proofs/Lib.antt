@@ -8,3 +8,13 @@ pub mod Codes
 pub mod Images
 pub mod Known
 pub mod Outcomes
+pub mod Points
+pub mod Fronts
+pub mod Writing
+pub mod CodedLemmas
+pub mod Places
+pub mod Parts
+pub mod Fitting
+pub mod ScanLemmas
+pub mod Scanning
+pub mod Commands

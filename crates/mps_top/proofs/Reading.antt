@@ -5,23 +5,21 @@ use Rattle.std.specs.Str.{bytes_eq}
 use Rattle.std.proofs.lemmas.Bool.{false≢true, lt-ltb}
 use Rattle.std.proofs.lemmas.List.{length-take}
 use Rattle.std.proofs.lemmas.Slice.Eq.{bytes_eq-Decides}
-use Rattle.mp_base.specs.Grid.{Field}
 use Rattle.gslib_grid.specs.LongFiles.{table_of_front}
 use Rattle.gslib_grid.specs.declared.row.Table.{Table}
 use Rattle.gslib_grid.specs.declared.fault.TableFault.{TableFault}
 use Rattle.mp_outside.specs.Causes.{Rose}
-use Rattle.mp_outside.specs.Contents.{Held, IsReadUpTo, SameHeld}
+use Rattle.mp_outside.specs.Contents.{Held, IsReadUpTo, OnlyReads, SameHeld}
 use Rattle.mp_params.specs.Params.{ParamsValue}
 use Rattle.mp_params.specs.Reading.{params_of}
 use Rattle.mp_params.specs.declared.fault.ParamsFault.{ParamsFault}
 use Rattle.mp_params.specs.declared.fault.ParamsFault.TheVariants.{TooLong}
 use Rattle.mps_top.specs.Answers.{IsReadFault, IsRefusal}
 use Rattle.mps_top.specs.Chain.{◌>>=◌, judged}
-use Rattle.mps_top.specs.Inputs.{codes_in, if_built, image_in, image_with, inputs_of, parameters_in, read_as, wanted_image, with_image}
+use Rattle.mps_top.specs.Inputs.{codes_in, if_built, image_in, image_with, parameters_in, points_in, points_with, read_as, wanted_image, wanted_points}
 use Rattle.mps_top.specs.Seen.{FilesSeen, without}
 use Rattle.mps_top.specs.declared.fault.Fault.{Fault}
-use Rattle.mps_top.specs.declared.fault.Fault.TheVariants.{Usage, Parameters, CannotRead, CannotWrite, Image, OutOfMemory, CannotReport}
-use Rattle.mps_top.specs.declared.inputs.Inputs.{Inputs}
+use Rattle.mps_top.specs.declared.fault.Fault.TheVariants.{Usage, Parameters, CannotRead, CannotWrite, Image, Points, OutOfMemory, CannotReport}
 
 -- A file that is longer than its limit is judged by the part that was read.
 
@@ -42,6 +40,12 @@ unfolding image_in
 image_of_front p bytes got (front, inl all) = ap (λ (b : List ℕ). image_in p b) all
 image_of_front p bytes got (front, inr long) =
     ap (λ (r : Result Table TableFault). judged Image r >>= image_with p) (table_of_front (wanted_image p) (codes_in p) bytes got front long)
+
+pub points_of_front : (p : ParamsValue) (bytes got : List ℕ) → IsReadUpTo (2 ^ 28) bytes got → points_in p got ≡ points_in p bytes
+unfolding points_in
+points_of_front p bytes got (front, inl all) = ap (λ (b : List ℕ). points_in p b) all
+points_of_front p bytes got (front, inr long) =
+    ap (λ (r : Result Table TableFault). judged Points r >>= points_with p) (table_of_front (wanted_points p) (codes_in p) bytes got front long)
 
 -- what was read is judged as the file is
 pub as_file : {A : Type 0} (made : List ℕ → Result A Fault) (limit : ℕ) (content : Option (List ℕ)) (got : List ℕ) → ((bytes : List ℕ) → IsReadUpTo limit bytes got → made got ≡ made bytes) → IsSomeAnd content (λ bytes. IsReadUpTo limit bytes got) → IsSomeAnd content (λ bytes. made got ≡ made bytes)
@@ -85,59 +89,87 @@ module _ {A : Type 0} (made : List ℕ → Result A Fault) (name : List ℕ) (be
     all_refused (Ok a) is = is
     all_refused (Err fault) is = file_refused fault is
 
--- The parameter file, and then the image.
+-- two calls that only read
+pub reads_through : {S : Type 0} (tells : S → Bool) (held : S → Held) (reads writes : S → List ℕ → ℕ) (before mid now : S) → OnlyReads tells held reads writes before mid → OnlyReads tells held reads writes mid now → OnlyReads tells held reads writes before now
+reads_through tells held reads writes before mid now first second =
+    record {
+      tells_same = second.tells_same ∙ first.tells_same;
+      held_same = λ name. second.held_same name ∙ first.held_same name;
+      reads_later = λ name. at_most (reads before name) (reads mid name) (reads now name) (first.reads_later name) (second.reads_later name);
+      writes_same = λ name. second.writes_same name ∙ first.writes_same name;
+    }
+  where
+    at_most : (a b c : ℕ) → a ≤ b → b ≤ c → a ≤ c
+    at_most a b c up more = omega arith
 
-module _ (name : List ℕ) (before mid now : FilesSeen) where
-  -- what follows the parameters
-  abbrev image_next : Held → ParamsValue → Result Inputs Fault
-  image_next held p = read_as (image_in p) p.image held >>= with_image p
+-- A stage, and then the next.
 
-  pub parameters_refused : (fault : Fault) → IsReadFault (read_as parameters_in name) before now fault → IsReadFault (inputs_of name) before now fault
-  parameters_refused Usage is = absurd is
-  parameters_refused (CannotWrite other) is = absurd is
-  parameters_refused CannotReport is = absurd is
-  parameters_refused OutOfMemory is = is
-  parameters_refused (CannotRead other) is = (is.0, λ told. ap (λ (r : Result ParamsValue Fault). r >>= image_next (without before.held other)) (is.1 told))
-  parameters_refused fault is = λ told. ap (λ (r : Result ParamsValue Fault). r >>= image_next before.held) (is told)
+-- where nothing is held under a name, a stage answers as before, or that it can't be read
+abbrev pub IsStage : {A : Type 0} → (Held → Result A Fault) → Type 0
+IsStage stage = (held : Held) (other : List ℕ) → (stage (without held other) ≡ stage held) ⊎ (stage (without held other) ≡ Err (CannotRead other))
 
-  module _ (p : ParamsValue) (accepted : IsTrue before.tells → read_as parameters_in name before.held ≡ Ok p) (tells : mid.tells ≡ before.tells) (held : SameHeld before.held mid.held) where
-    image_at : (a b : Held) → a p.image ≡ b p.image → read_as (image_in p) p.image a ≡ read_as (image_in p) p.image b
-    image_at a b same = ap (λ (content : Option (List ℕ)). ok_or content (CannotRead p.image) >>= image_in p) same
+pub one_file : {A : Type 0} (made : List ℕ → Result A Fault) (name : List ℕ) → IsStage (read_as made name)
+one_file {A} made name held other = by_name (bytes_eq name other) refl
+  where
+    at : Bool → Result A Fault
+    at b = ok_or (cond b None (held name)) (CannotRead name) >>= made
 
+    by_name : (b : Bool) → bytes_eq name other ≡ b → (read_as made name (without held other) ≡ read_as made name held) ⊎ (read_as made name (without held other) ≡ Err (CannotRead other))
+    by_name true same = inr (ap at same ∙ ap (λ (n : List ℕ). Err (CannotRead n)) ((bytes_eq-Decides name other).0 same))
+    by_name false apart = inl (ap at apart)
+
+module _ {A B : Type 0} (first : Held → Result A Fault) (second : A → Held → Result B Fault) (before mid now : FilesSeen) where
+  abbrev both : Held → Result B Fault
+  both held = first held >>= λ a. second a held
+
+  pub first_refused : (fault : Fault) → IsReadFault first before now fault → IsReadFault both before now fault
+  first_refused Usage is = absurd is
+  first_refused (CannotWrite other) is = absurd is
+  first_refused CannotReport is = absurd is
+  first_refused OutOfMemory is = is
+  first_refused (CannotRead other) is = (is.0, λ told. ap (λ (r : Result A Fault). r >>= λ a. second a (without before.held other)) (is.1 told))
+  first_refused fault is = λ told. ap (λ (r : Result A Fault). r >>= λ a. second a before.held) (is told)
+
+  module _ (a : A) (accepted : IsTrue before.tells → first before.held ≡ Ok a) (tells : mid.tells ≡ before.tells) (held : SameHeld before.held mid.held) where
     told_then : IsTrue before.tells → IsTrue mid.tells
     told_then told = subst IsTrue (sym tells) told
 
-    -- the inputs are the image's where the parameters are accepted
-    after_parameters : (contents : Held) → read_as parameters_in name contents ≡ Ok p → inputs_of name contents ≡ image_next contents p
-    after_parameters contents is = ap (λ (r : Result ParamsValue Fault). r >>= image_next contents) is
+    same_held : before.held ≡ mid.held
+    same_held = λ i name. sym (held name) i
 
-    -- the image can't be read where it isn't held, nor the parameters where both have one name
-    image_unread : (other : List ℕ) → IsTrue before.tells → read_as (image_in p) p.image (without mid.held other) ≡ Err (CannotRead other) → inputs_of name (without before.held other) ≡ Err (CannotRead other)
-    image_unread other told is = by_name (bytes_eq name other) refl
+    -- what the second stage says, by what the files held at first
+    after_first : IsTrue before.tells → both before.held ≡ second a mid.held
+    after_first told = ap (λ (r : Result A Fault). r >>= λ a. second a before.held) (accepted told) ∙ ap (second a) same_held
+
+    second_unread : IsStage first → (other : List ℕ) → IsTrue before.tells → second a (without mid.held other) ≡ Err (CannotRead other) → both (without before.held other) ≡ Err (CannotRead other)
+    second_unread stage other told is = either (stage before.held other)
       where
-        by_name : (b : Bool) → bytes_eq name other ≡ b → inputs_of name (without before.held other) ≡ Err (CannotRead other)
-        by_name true same =
-            ap (λ (r : Result ParamsValue Fault). r >>= image_next (without before.held other)) (ap (λ b. ok_or (cond b None (before.held name)) (CannotRead name) >>= parameters_in) same)
-            ∙ ap (λ (n : List ℕ). Err (CannotRead n)) ((bytes_eq-Decides name other).0 same)
-        by_name false apart =
-            after_parameters (without before.held other) (ap (λ b. ok_or (cond b None (before.held name)) (CannotRead name) >>= parameters_in) apart ∙ accepted told)
-            ∙ ap (λ (r : Result Field Fault). r >>= with_image p) (image_at (without before.held other) (without mid.held other) (ap (λ (c : Option (List ℕ)). cond (bytes_eq p.image other) None c) (sym (held p.image))) ∙ is)
+        next : Result A Fault → Result B Fault
+        next r = r >>= λ a. second a (without before.held other)
 
-    pub image_refused : (fault : Fault) → ((n : List ℕ) → before.reads n ≤ mid.reads n) → IsReadFault (read_as (image_in p) p.image) mid now fault → IsReadFault (inputs_of name) before now fault
-    image_refused Usage later is = absurd is
-    image_refused (CannotWrite other) later is = absurd is
-    image_refused CannotReport later is = absurd is
-    image_refused OutOfMemory later is = is
-    image_refused (CannotRead other) later is = (rose (before.reads other) (mid.reads other) (now.reads other) (later other) is.0, λ told. image_unread other told (is.1 (told_then told)))
+        either : (first (without before.held other) ≡ first before.held) ⊎ (first (without before.held other) ≡ Err (CannotRead other)) → both (without before.held other) ≡ Err (CannotRead other)
+        either (inl same) = ap next (same ∙ accepted told) ∙ ap (λ (h : Held). second a (without h other)) same_held ∙ is
+        either (inr unread) = ap next unread
+
+    pub second_refused : IsStage first → ((n : List ℕ) → before.reads n ≤ mid.reads n) → (fault : Fault) → IsReadFault (second a) mid now fault → IsReadFault both before now fault
+    second_refused stage later Usage is = absurd is
+    second_refused stage later (CannotWrite other) is = absurd is
+    second_refused stage later CannotReport is = absurd is
+    second_refused stage later OutOfMemory is = is
+    second_refused stage later (CannotRead other) is = (rose (before.reads other) (mid.reads other) (now.reads other) (later other) is.0, λ told. second_unread stage other told (is.1 (told_then told)))
       where
         rose : (a b c : ℕ) → a ≤ b → Rose b c → Rose a c
         rose a b c up more = omega arith
-    image_refused fault later is =
-        λ told.
-        after_parameters before.held (accepted told)
-        ∙ ap (λ (r : Result Field Fault). r >>= with_image p) (image_at before.held mid.held (sym (held p.image)) ∙ is (told_then told))
+    second_refused stage later fault is = λ told. after_first told ∙ is (told_then told)
 
-    pub image_accepted : (image : Field) → (IsTrue mid.tells → read_as (image_in p) p.image mid.held ≡ Ok image) → IsTrue before.tells → inputs_of name before.held ≡ Ok (record { parameters = p; image = image })
-    image_accepted image is told =
-        after_parameters before.held (accepted told)
-        ∙ ap (λ (r : Result Field Fault). r >>= with_image p) (image_at before.held mid.held (sym (held p.image)) ∙ is (told_then told))
+    pub second_accepted : (b : B) → (IsTrue mid.tells → second a mid.held ≡ Ok b) → IsTrue before.tells → both before.held ≡ Ok b
+    second_accepted b is told = after_first told ∙ is (told_then told)
+
+    -- the same of an answer
+    pub then_accepted : (result : Result B Fault) → IfOk result (λ b. IsTrue mid.tells → second a mid.held ≡ Ok b) → IfOk result (λ b. IsTrue before.tells → both before.held ≡ Ok b)
+    then_accepted (Ok b) is = second_accepted b is
+    then_accepted (Err fault) is = is
+
+    pub then_refused : IsStage first → ((n : List ℕ) → before.reads n ≤ mid.reads n) → (result : Result B Fault) → IfErr result (IsReadFault (second a) mid now) → IfErr result (IsReadFault both before now)
+    then_refused stage later (Ok b) is = is
+    then_refused stage later (Err fault) is = second_refused stage later fault is

@@ -3,7 +3,7 @@ use Rattle.std.proofs.Common.{◌≡◌, ◌⊎◌, inl, inr, refl, sym, ◌∙�
 use Rattle.std.specs.Prelude.{IsOk, IsOkAnd, ok_or}
 use Rattle.mp_outside.specs.Causes.{Rose}
 use Rattle.mp_outside.specs.Contents.{Held}
-use Rattle.mps_top.specs.Answers.{Causes, IsWhole, Serves}
+use Rattle.mps_top.specs.Answers.{Causes, IsUsage, IsWhole, Serves}
 use Rattle.mps_top.specs.Chain.{◌>>=◌}
 use Rattle.mps_top.specs.Outcome.{Done, outcome_for, outcome_of}
 use Rattle.mps_top.specs.Seen.{FilesSeen, SinkSeen}
@@ -27,19 +27,7 @@ module _ (words : List (List ℕ)) (before now : FilesSeen) (out_before out_now 
   pub refused : command_of words ≡ None → Serves (outcome_of words) before before out_before out_before (Err Usage)
   refused is =
       subst (λ (c : Option Command). Serves (told_outcome c) before before out_before out_before (Err Usage)) (sym is)
-      (record { cause = λ held. refl; files = λ told name. refl; out = λ told. refl })
-
--- only words that are none are refused whatever the files hold
-pub no_command : (words : List (List ℕ)) → ((held : Held) → outcome_of words held ≡ Err Usage) → command_of words ≡ None
-no_command words refused = by_command (command_of words) refl
-  where
-    unread : (command : Command) → told_outcome (Some command) (λ name. None) ≡ Err Usage → ⊥
-    unread (Run name) is = cc is
-    unread (Check name) is = cc is
-
-    by_command : (command : Option Command) → command_of words ≡ command → command_of words ≡ None
-    by_command None is = is
-    by_command (Some command) is = absurd (unread command (sym (ap (λ (c : Option Command). told_outcome c (λ name. None)) is) ∙ refused (λ name. None)))
+      (record { cause = ((before.held, refl), λ told. refl); files = λ told name. refl; out = λ told. refl })
 
 -- The causes of statuses, by counts.
 
@@ -47,7 +35,7 @@ module _ (outcome : Held → Result Done Fault) (before now : FilesSeen) (out_be
   abbrev Cause : Result (Unit {0}) Fault → Type 0
   Cause answer = Causes outcome before now out_before out_now answer
 
-  pub usage_cause : (answer : Result (Unit {0}) Fault) → Cause answer → status_of answer ≡ 1 → (held : Held) → outcome held ≡ Err Usage
+  pub usage_cause : (answer : Result (Unit {0}) Fault) → Cause answer → status_of answer ≡ 1 → IsUsage outcome before
   usage_cause (Err Usage) cause is = cause
   usage_cause (Ok u) cause is = absurd (omega arith)
   usage_cause (Err fault) cause is = absurd (omega arith)
@@ -96,7 +84,7 @@ module _ (outcome : Held → Result Done Fault) (held_before held_now : Held) (w
   status_in_memory (Err (CannotWrite name)) serves = absurd (never_rose serves.cause.0)
   status_in_memory (Err CannotReport) serves = absurd (never_rose serves.cause.0)
   status_in_memory (Err OutOfMemory) serves = inl refl
-  status_in_memory (Err Usage) serves = inr (ap status_of (sym (serves.cause held_before)))
+  status_in_memory (Err Usage) serves = inr (ap status_of (sym (serves.cause.1 refl)))
   status_in_memory (Err fault) serves = inr (ap status_of (sym (serves.cause refl)))
 
   both : (o : Result Done Fault) → IsOkAnd o (IsWhole held_before held_now) → IsOkAnd o (λ done. written_now ≡ written_before ++ done.out) → IsOkAnd o (λ done. IsWhole held_before held_now done × (written_now ≡ written_before ++ done.out))

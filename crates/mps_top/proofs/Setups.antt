@@ -2,20 +2,18 @@
 use Rattle.std.proofs.Common.{◌≡◌, refl, ℕ, ◌<◌, ◌≤◌, ℤ, Bool, true, false, List, length, get_or, replicate, cond, ltb, Option, Some, None, arith}
 use Rattle.std.specs.Prelude.{sum}
 use Rattle.std.specs.List.{All}
-use Rattle.std.specs.Option.{IsNone}
 use Rattle.std.proofs.lemmas.Bool.{and_parts, eqb-true, leb-true}
 use Rattle.std.proofs.lemmas.Bool.Decides.{nat_tests}
 use Rattle.std.proofs.lemmas.List.{length-replicate}
-use Rattle.std.proofs.lemmas.List.Elements.{All-replicate}
 use Rattle.std.proofs.lemmas.List.Sums.{AllPass-from_list_all}
-use Rattle.mp_base.specs.Grid.{Field, IsBelow, cells_of}
+use Rattle.mp_base.specs.Grid.{Field, IsBelow}
 use Rattle.mp_base.proofs.Tallies.{length-tally}
 use Rattle.mp_params.specs.Params.{AreCategories, AreRadii, IsParams, ParamsValue, targets_fit}
 use Rattle.mp_params.specs.Values.{is_between}
 use Rattle.seq_engine.specs.Setup.{IsSetup}
 use Rattle.template_order.specs.Reach.{radii_in}
 use Rattle.template_order.specs.Template.{IsSmall}
-use Rattle.mps_top.specs.Setup.{category_counts, setup_of, shares_of, target_of, unknown}
+use Rattle.mps_top.specs.Setup.{category_counts, setup_of, shares_of, target_of}
 
 between : (low high n : ℕ) → is_between low high n ≡ true → (low ≤ n) × (n ≤ high)
 between low high n is = (grind (arith, nat_tests), grind (arith, nat_tests))
@@ -46,27 +44,20 @@ target_length : (targets : Option (List ℕ)) (p : ParamsValue) (image : Field) 
 target_length None p image fit = shares_length (length p.categories) image
 target_length (Some parts) p image fit = (targets_right parts p fit).0
 
--- nothing is known of the grid
-pub nothing_known : (p : ParamsValue) → All IsNone (unknown p).cells
-nothing_known p = All-replicate IsNone (cells_of p.grid) None none_is
-  where
-    none_is : IsNone {T = ℕ} None
-    none_is = refl
-
 some_categories : (codes : List ℤ) → AreCategories codes → 1 ≤ length codes
 some_categories codes are = leb-true 1 (length codes) (and_parts _ _ are.codes).0
 
 -- the setup can be simulated
-pub is_setup : (p : ParamsValue) (image : Field) → IsParams p → All (IsBelow (length p.categories)) image.cells → IsSetup (setup_of p image)
+pub is_setup : (p : ParamsValue) (image hard : Field) → IsParams p → All (IsBelow (length p.categories)) image.cells → hard.sides ≡ p.grid → All (IsBelow (length p.categories)) hard.cells → IsSetup (setup_of p image hard)
 unfolding setup_of
-is_setup p image is below =
+is_setup p image hard is below hard_sides hard_below =
     record {
       setup = record {
-        hard_sides = refl;
+        hard_sides = hard_sides;
         cats_some = some_categories p.categories is.categories;
         cats_few = is.categories.few;
         image_below = below;
-        hard_below = All-replicate (IsBelow (length p.categories)) (cells_of p.grid) None tt;
+        hard_below = hard_below;
         whole = refl;
         levels_some = (between 1 8 p.levels is.levels).0;
         levels_few = (between 1 8 p.levels is.levels).1;

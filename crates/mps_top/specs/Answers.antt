@@ -22,15 +22,19 @@ IsReadFault outcome before now (CannotWrite name) = ⊥
 IsReadFault outcome before now CannotReport = ⊥
 IsReadFault outcome before now fault = IsTrue before.tells → outcome before.held ≡ Err fault
 
+-- words are refused: by what the files hold, where they tell it, and at any rate by what they may hold
+abbrev pub IsUsage : (Held → Result Done Fault) → FilesSeen → Type 0
+IsUsage outcome before = ((held : Held) × (outcome held ≡ Err Usage)) × (IsTrue before.tells → outcome before.held ≡ Err Usage)
+
 -- the file that is written has this name
 abbrev pub WritesTo : List ℕ → Done → Type 0
 WritesTo name done = IsSomeAnd done.output (λ file. file.name ≡ name)
 
--- Words are refused whatever the files hold. A failed write comes where the count of its file, or of `out`, rose, and
+-- Words are refused by the outcome. A failed write comes where the count of its file, or of `out`, rose, and
 -- nothing is refused.
 abbrev pub Causes : (Held → Result Done Fault) → FilesSeen → FilesSeen → SinkSeen → SinkSeen → Result (Unit {0}) Fault → Type 0
 Causes outcome before now out_before out_now (Ok _) = IsTrue before.tells → IsOk (outcome before.held)
-Causes outcome before now out_before out_now (Err Usage) = (held : Held) → outcome held ≡ Err Usage
+Causes outcome before now out_before out_now (Err Usage) = IsUsage outcome before
 Causes outcome before now out_before out_now (Err (CannotWrite name)) =
     Rose (before.writes name) (now.writes name) × (IsTrue before.tells → IsOkAnd (outcome before.held) (WritesTo name))
 Causes outcome before now out_before out_now (Err CannotReport) =

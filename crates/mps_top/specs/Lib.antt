@@ -2,6 +2,7 @@ pub mod Words
 pub mod Chain
 pub mod Inputs
 pub mod Setup
+pub mod Judged
 pub mod Texts
 pub mod Outcome
 pub mod Status
@@ -9,3 +10,7 @@ pub mod Lines
 pub mod Seen
 pub mod Answers
 pub mod Files
+pub mod Coded
+pub mod ScanWords
+pub mod ScanText
+pub mod Scanning

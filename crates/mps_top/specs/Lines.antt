@@ -7,7 +7,7 @@ use Rattle.mp_params.specs.declared.fault.ParamsFault.{ParamsFault}
 use Rattle.mp_params.specs.declared.fault.ParamsFault.TheVariants as parameters
 use Rattle.mp_params.specs.Table.{key_name}
 use Rattle.mps_top.specs.declared.fault.Fault.{Fault}
-use Rattle.mps_top.specs.declared.fault.Fault.TheVariants.{Usage, Parameters, NotBuilt, CannotRead, CannotWrite, Image, TooFewPositions, OutOfMemory, CannotReport}
+use Rattle.mps_top.specs.declared.fault.Fault.TheVariants.{Usage, Parameters, NotBuilt, CannotRead, CannotWrite, Image, Points, TooFewPositions, OutOfMemory, CannotReport}
 
 -- a reason that names a line
 abbrev pub at_line : ℕ → List ℕ → List ℕ
@@ -41,6 +41,7 @@ reason_of (NotBuilt part) = codes "parameters: form not built yet"
 reason_of (CannotRead name) = codes "cannot read " ++ name
 reason_of (CannotWrite name) = codes "cannot write " ++ name
 reason_of (Image fault) = codes "image: " ++ table_reason fault
+reason_of (Points fault) = codes "points: " ++ table_reason fault
 reason_of (TooFewPositions level have want) =
     codes "too few positions at level " ++ (decimal level ++ (codes ": have " ++ (decimal have ++ (codes ", want " ++ decimal want))))
 reason_of OutOfMemory = codes "out of memory"

@@ -1,14 +1,18 @@
--- The simulation that parameters and an image ask for.
-use Rattle.std.specs.Prelude.{ℕ, false, nat_lt, List, [], ◌∷◌, length, sum, replicate, Option, Some, None, Result, Ok, Err, if◌then◌else◌}
+-- The simulation that parameters, an image and hard data ask for.
+use Rattle.std.specs.Prelude.{ℕ, false, nat_lt, List, length, sum, replicate, Option, Some, None, Result, Ok, Err, if◌then◌else◌}
+use Rattle.std.specs.Option.{option_map_or}
 use Rattle.mp_base.specs.Counts.{tally}
-use Rattle.mp_base.specs.Grid.{Field, cells_of, field}
+use Rattle.mp_base.specs.Grid.{Field}
 use Rattle.mp_params.specs.Params.{ParamsValue}
 use Rattle.template_order.specs.Reach.{radii_in}
 use Rattle.template_order.specs.Template.{template_of}
-use Rattle.seq_engine.specs.Realisation.{level_positions}
+use Rattle.seq_engine.specs.Realisation.{positions_by_level, too_few}
+use Rattle.seq_engine.specs.declared.setup.RunError.{RunError}
+use Rattle.seq_engine.specs.declared.setup.RunError.TheVariants as run
 use Rattle.seq_engine.specs.declared.setup.Setup.{Setup}
 use Rattle.mps_top.specs.declared.fault.Fault.{Fault}
-use Rattle.mps_top.specs.declared.fault.Fault.TheVariants.{TooFewPositions}
+use Rattle.mps_top.specs.declared.fault.Fault.TheVariants.{TooFewPositions, OutOfMemory}
+use Rattle.mps_top.specs.declared.inputs.Inputs.{Inputs}
 
 -- how many cells of an image have each category
 abbrev pub category_counts : ℕ → Field → List ℕ
@@ -23,16 +27,12 @@ abbrev pub target_of : Option (List ℕ) → ℕ → Field → List ℕ
 target_of (Some parts) cats image = parts
 target_of None cats image = shares_of cats (category_counts cats image)
 
--- a grid of which nothing is known
-abbrev pub unknown : ParamsValue → Field
-unknown p = field p.grid (replicate (cells_of p.grid) None)
-
-unfoldable pub setup_of : ParamsValue → Field → Setup
-setup_of p image = record {
+unfoldable pub setup_of : ParamsValue → Field → Field → Setup
+setup_of p image hard = record {
   image = image;
   template = record { vectors = template_of (radii_in p.radii) p.template; stretched = false };
   shape = p.grid;
-  hard = unknown p;
+  hard = hard;
   cats = length p.categories;
   target = target_of p.targets (length p.categories) image;
   levels = p.levels;
@@ -42,12 +42,15 @@ setup_of p image = record {
   seed = p.seed;
 }
 
--- how many eroded positions a level has
-abbrev pub position_count : Setup → ℕ → ℕ
-position_count s level = length (level_positions s level)
+-- the simulation that inputs ask for
+abbrev pub setup_for : Inputs → Setup
+setup_for inputs = setup_of inputs.parameters inputs.image inputs.points.cells
 
--- the number of eroded positions by level, where there are as many as the replicates that are wanted
+-- why there is no realisation, as a fault
+abbrev pub run_fault : RunError → Fault
+run_fault (run.TooFewPositions level have want) = TooFewPositions level have want
+run_fault run.NoMemory = OutOfMemory
+
+-- the number of eroded positions by level, where each level has as many as the replicates that are wanted
 abbrev pub positions_of : Setup → Result (List ℕ) Fault
-positions_of s =
-    if nat_lt (position_count s 1) s.min_replicates then Err (TooFewPositions 1 (position_count s 1) s.min_replicates)
-    else Ok (position_count s 1 ∷ [])
+positions_of s = option_map_or (λ error. Err (run_fault error)) (too_few s) (Ok (positions_by_level s))

@@ -1,7 +1,7 @@
 -- The exit status of an answer.
 use Rattle.std.specs.Prelude.{ℕ, Result, Ok, Err}
 use Rattle.mps_top.specs.declared.fault.Fault.{Fault}
-use Rattle.mps_top.specs.declared.fault.Fault.TheVariants.{Usage, Parameters, NotBuilt, CannotRead, CannotWrite, Image, TooFewPositions, OutOfMemory, CannotReport}
+use Rattle.mps_top.specs.declared.fault.Fault.TheVariants.{Usage, Parameters, NotBuilt, CannotRead, CannotWrite, Image, Points, TooFewPositions, OutOfMemory, CannotReport}
 
 abbrev pub status_of_fault : Fault → ℕ
 status_of_fault Usage = 1
@@ -10,6 +10,7 @@ status_of_fault (NotBuilt part) = 2
 status_of_fault (CannotRead name) = 3
 status_of_fault (CannotWrite name) = 4
 status_of_fault (Image fault) = 5
+status_of_fault (Points fault) = 6
 status_of_fault (TooFewPositions level have want) = 7
 status_of_fault OutOfMemory = 8
 status_of_fault CannotReport = 9

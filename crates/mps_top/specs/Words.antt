@@ -1,9 +1,11 @@
 -- The words of a command.
-use Rattle.std.specs.Prelude.{ℕ, Bool, ◌&&◌, not, nat_lt, nat_le, ◌==◌, List, [], ◌∷◌, length, Option, Some, None, if◌then◌else◌, codes, slice_index}
+use Rattle.std.specs.Prelude.{⊤, ℕ, Bool, ◌&&◌, not, nat_lt, nat_le, ◌==◌, List, [], ◌∷◌, length, Option, Some, None, option_map, if◌then◌else◌, codes, slice_index}
 use Rattle.std.specs.List.{list_all}
 use Rattle.std.specs.Str.{bytes_eq}
+use Rattle.multigrid.specs.Levels.{IsLevel}
+use Rattle.mps_top.specs.ScanWords.{scan_words}
 use Rattle.mps_top.specs.declared.words.Command.{Command}
-use Rattle.mps_top.specs.declared.words.Command.TheVariants.{Run, Check}
+use Rattle.mps_top.specs.declared.words.Command.TheVariants.{Run, Check, Scan}
 
 -- from the space to the tilde
 abbrev pub is_name_byte : ℕ → Bool
@@ -24,7 +26,18 @@ is_file word = is_name word && not (is_option word)
 abbrev pub command_over : List ℕ → List ℕ → Option Command
 command_over verb name = if bytes_eq verb (codes "run") then Some (Run name) else if bytes_eq verb (codes "check") then Some (Check name) else None
 
+-- the command of a first word that takes a parameter file, a level and an event
+abbrev pub scan_over : List ℕ → List ℕ → List ℕ → List ℕ → Option Command
+scan_over verb name level event = if bytes_eq verb (codes "scan") then option_map (Scan name) (scan_words level event) else None
+
 -- the command that the words are, if they are one
 unfoldable pub command_of : List (List ℕ) → Option Command
 command_of (verb ∷ name ∷ []) = if is_file name then command_over verb name else None
+command_of (verb ∷ name ∷ level ∷ event ∷ []) = if is_file name then scan_over verb name level event else None
 command_of _ = None
+
+-- a level that is named is one
+abbrev pub HasLevel : Command → Type 0
+HasLevel (Run name) = ⊤
+HasLevel (Check name) = ⊤
+HasLevel (Scan name words) = IsLevel words.level

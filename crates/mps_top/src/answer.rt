@@ -2,16 +2,17 @@
 ghost use Rattle.std.specs.Prelude.{◌≡◌, ◌⊎◌, ◌++◌, ℕ, List, IsOkAnd, None, map, string_bytes, IsTrue, Err};
 ghost use Rattle.mp_outside.specs.Causes.{Rose};
 ghost use Rattle.mp_outside.specs.NoFault.{content, sink_bytes};
-ghost use Rattle.mps_top.specs.Answers.{IsAnswer, IsTold, IsWhole, Serves};
+ghost use Rattle.mps_top.specs.Answers.{IsAnswer, IsTold, IsUsage, IsWhole, Serves};
 ghost use Rattle.mps_top.specs.Outcome.{outcome_for, outcome_of};
 ghost use Rattle.mps_top.specs.Seen.{files_seen, sink_seen};
 ghost use Rattle.mps_top.specs.Status.{status_of, status_of_fault};
-ghost use Rattle.mps_top.specs.Words.{command_of as command_of_words};
+ghost use Rattle.mps_top.specs.Words.{HasLevel, command_of as command_of_words};
 
 use crate::check::check;
 use crate::fault::Fault;
 use crate::line::fault_line;
 use crate::run::run;
+use crate::scan::scan;
 use crate::status::{fault_status, status};
 use crate::words::{Command, command_of};
 use mp_outside::{Files, NoFaultFiles, NoFaultSink, Sink};
@@ -31,7 +32,7 @@ pub fn answer_alone<R: Threads, F: Files, O: Sink, E: Sink>(
     err: &mut E,
 ) -> u8
     ensures answer { IsAnswer (outcome_of (map (λ w. string_bytes w) words.now)) (files_seen F.tells F.held F.reads F.writes files.old) (files_seen F.tells F.held F.reads F.writes files.new) (sink_seen O.tells O.written O.faults out.old) (sink_seen O.tells O.written O.faults out.new) (sink_seen E.tells E.written E.faults err.old) (sink_seen E.tells E.written E.faults err.new) result }
-    ensures usage { result ≡ 1 → command_of_words (map (λ w. string_bytes w) words.now) ≡ None }
+    ensures usage { result ≡ 1 → IsUsage (outcome_of (map (λ w. string_bytes w) words.now)) (files_seen F.tells F.held F.reads F.writes files.old) }
     ensures no_command { command_of_words (map (λ w. string_bytes w) words.now) ≡ None → result ≡ 1 }
     ensures read_cause { result ≡ 3 → (name : List ℕ) × Rose (F.reads files.old name) (F.reads files.new name) }
     ensures write_cause { result ≡ 4 → (name : List ℕ) × Rose (F.writes files.old name) (F.writes files.new name) }
@@ -85,11 +86,13 @@ fn serve_command<R: Threads, F: Files, O: Sink>(
     files: &mut F,
     out: &mut O,
 ) -> Result<(), Fault>
+    requires { HasLevel command.now }
     ensures { Serves (outcome_for command.now) (files_seen F.tells F.held F.reads F.writes files.old) (files_seen F.tells F.held F.reads F.writes files.new) (sink_seen O.tells O.written O.faults out.old) (sink_seen O.tells O.written O.faults out.new) result }
 {
     match command {
-        Command::Run { parameters } => run(rt, alloc, files, parameters),
+        Command::Run { parameters } => run(rt, alloc, files, out, parameters),
         Command::Check { parameters } => check(alloc, files, out, parameters),
+        Command::Scan { parameters, words } => scan(alloc, files, out, parameters, words),
     }
 }
 

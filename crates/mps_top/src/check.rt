@@ -9,12 +9,10 @@ ghost use Rattle.mps_top.specs.declared.words.Command.TheVariants.{Check};
 use crate::fault::{Fault, Name};
 use crate::files::report;
 use crate::inputs::{Inputs, read_inputs};
-use crate::positions::positions_of;
-use crate::setup::setup_of;
+use crate::judge::judge;
 use crate::texts::check_text;
-use mp_base::{Grid, NoMemory};
+use mp_base::NoMemory;
 use mp_outside::{Files, Sink};
-use mp_params::Params;
 use std::alloc::Global;
 
 /// Reads and judges the inputs of a run, and tells on `out` what they are. It makes no file.
@@ -37,27 +35,23 @@ fn tell_inputs<O: Sink>(alloc: Global, out: &mut O, inputs: Inputs) -> Result<()
     requires { IsInputs inputs }
     ensures { (files : FilesSeen) → Ends (check_of inputs) files files (sink_seen O.tells O.written O.faults out.old) (sink_seen O.tells O.written O.faults out.new) result }
 {
-    let Inputs { parameters, image } = inputs;
-    match inputs_text(alloc, &parameters, image) {
+    match inputs_text(alloc, inputs) {
         Ok(text) => report(out, &text),
         Err(fault) => Err(fault),
     }
 }
 
 // The text that tells what the inputs are.
-fn inputs_text(alloc: Global, parameters: &Params, image: Grid) -> Result<Vec<u8>, Fault>
-    requires { IsInputs (record { parameters = parameters.now; image = image }) }
-    ensures text { IfOk result (λ text. check_of (record { parameters = parameters.now; image = image }) ≡ Ok (record { output = None; out = text.items })) }
-    ensures fault { IfErr result (IsRefusal (check_of (record { parameters = parameters.now; image = image }))) }
+fn inputs_text(alloc: Global, inputs: Inputs) -> Result<Vec<u8>, Fault>
+    requires { IsInputs inputs }
+    ensures text { IfOk result (λ text. check_of inputs ≡ Ok (record { output = None; out = text.items })) }
+    ensures fault { IfErr result (IsRefusal (check_of inputs)) }
 {
-    let Ok(setup) = setup_of(alloc, parameters, image) else {
-        return Err(Fault::OutOfMemory);
-    };
-    let positions = match positions_of(alloc, &setup) {
-        Ok(positions) => positions,
+    let judged = match judge(alloc, inputs) {
+        Ok(judged) => judged,
         Err(fault) => return Err(fault),
     };
-    match check_text(alloc, parameters, &setup.image, positions.as_slice()) {
+    match check_text(alloc, &judged) {
         Ok(text) => Ok(text),
         Err(NoMemory) => Err(Fault::OutOfMemory),
     }

@@ -59,7 +59,7 @@ pub enum Part {
 /// Why a command was refused or broke off. Each has its status and its line on standard error.
 #[derive(Drop)]
 pub enum Fault {
-    /// The words are no command.
+    /// The words are no command, or they don't fit the parameters.
     Usage,
     /// The parameter file isn't accepted.
     Parameters(ParamsFault),
@@ -71,6 +71,8 @@ pub enum Fault {
     CannotWrite { name: Name },
     /// The table of the image isn't accepted.
     Image(TableFault),
+    /// The table of the points isn't accepted.
+    Points(TableFault),
     /// The image has fewer eroded positions at a level than the replicates that are wanted.
     TooFewPositions { level: u8, have: u32, want: u32 },
     /// Memory ran out.

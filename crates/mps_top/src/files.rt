@@ -1,8 +1,8 @@
 // The files that a command reads and writes, and its text for `out`.
-ghost use Rattle.std.specs.Prelude.{◌≡◌, ◌⊎◌, ◌≤◌, ◌^◌, [], length, IfErr, IfOk, IsTrue, Some};
-ghost use Rattle.mp_outside.specs.Causes.{Rose, NoneFell, SameCounts};
-ghost use Rattle.mp_outside.specs.Contents.{OnlyReads, OnlyHeldAt};
-ghost use Rattle.mps_top.specs.Files.{IsReadOf, IsReported, IsWritten, fault_of};
+ghost use Rattle.std.specs.Prelude.{◌≡◌, ◌⊎◌, ◌≤◌, ◌^◌, ℕ, List, [], length, IfErr, IfOk, IsSome, IsTrue, Some};
+ghost use Rattle.mp_outside.specs.Causes.{Rose};
+ghost use Rattle.mp_outside.specs.Contents.{OnlyReads};
+ghost use Rattle.mps_top.specs.Files.{IsAdded, IsReadOf, IsReported, IsWritten, OnlyWrites, fault_of};
 
 use crate::fault::{Fault, Name};
 use mp_outside::{Files, OutFault, Sink, read_to_limit};
@@ -30,29 +30,26 @@ pub fn read_file<F: Files>(
     }
 }
 
-/// Makes the output file, and writes its text in one piece.
-pub fn write_output<F: Files>(files: &mut F, name: &str, text: &[u8]) -> Result<(), Fault>
+/// Makes the output file, which is empty.
+pub fn create_output<F: Files>(files: &mut F, name: &str) -> Result<(), Fault>
     requires { length name.now ≤ 255 }
-    ensures written { IsTrue (F.tells files.old) → IsWritten (F.held files.old name.now) (F.held files.new name.now) text.now result }
+    ensures made { IsTrue (F.tells files.old) → IsWritten (F.held files.old name.now) (F.held files.new name.now) [] result }
     ensures cause { IfErr result (λ e. (e ≡ Fault.OutOfMemory) ⊎ ((e ≡ Fault.CannotWrite name.now) × Rose (F.writes files.old name.now) (F.writes files.new name.now))) }
-    ensures others { OnlyHeldAt name.now (F.held files.old) (F.held files.new) }
-    ensures reads { SameCounts (F.reads files.old) (F.reads files.new) }
+    ensures only { OnlyWrites F.tells F.held F.writes name.now files.old files.new }
 {
     match files.create(name) {
-        Ok(()) => append_output(files, name, text),
+        Ok(()) => Ok(()),
         Err(fault) => Err(write_fault(name, fault)),
     }
 }
 
-// Writes the text of the output file, which was made and is empty.
-fn append_output<F: Files>(files: &mut F, name: &str, text: &[u8]) -> Result<(), Fault>
+/// Appends a text to the output file in one piece.
+pub fn append_output<F: Files>(files: &mut F, name: &str, text: &[u8]) -> Result<(), Fault>
     requires short { length name.now ≤ 255 }
-    requires made { IsTrue (F.tells files.old) → F.held files.old name.now ≡ Some [] }
-    ensures written { IsTrue (F.tells files.old) → IsWritten (Some []) (F.held files.new name.now) text.now result }
+    requires made { IsTrue (F.tells files.old) → IsSome (F.held files.old name.now) }
+    ensures added { (front : List ℕ) → IsTrue (F.tells files.old) → F.held files.old name.now ≡ Some front → IsAdded front (F.held files.new name.now) text.now result }
     ensures cause { IfErr result (λ e. (e ≡ Fault.OutOfMemory) ⊎ ((e ≡ Fault.CannotWrite name.now) × Rose (F.writes files.old name.now) (F.writes files.new name.now))) }
-    ensures others { OnlyHeldAt name.now (F.held files.old) (F.held files.new) }
-    ensures writes { NoneFell (F.writes files.old) (F.writes files.new) }
-    ensures reads { SameCounts (F.reads files.old) (F.reads files.new) }
+    ensures only { OnlyWrites F.tells F.held F.writes name.now files.old files.new }
 {
     match files.append(name, text) {
         Ok(()) => Ok(()),

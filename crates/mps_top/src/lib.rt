@@ -4,12 +4,22 @@
 
 mod answer;
 mod check;
+mod coded;
 mod fault;
 mod files;
 mod inputs;
+mod judge;
 mod line;
 mod positions;
+mod realisations;
 mod run;
+mod scan;
+mod scan_fit;
+mod scan_plan;
+#[cfg(test)]
+mod scan_tests;
+mod scan_text;
+mod scan_words;
 mod setup;
 mod status;
 #[cfg(test)]

@@ -22,7 +22,8 @@ pub fn fault_line(fault: &Fault) -> ArrayString<512>
         Fault::NotBuilt { .. } => line_with("parameters: form not built yet", ""),
         Fault::CannotRead { name } => line_with("cannot read ", name.as_str()),
         Fault::CannotWrite { name } => line_with("cannot write ", name.as_str()),
-        Fault::Image(fault) => image_line(fault),
+        Fault::Image(fault) => table_line("image: ", fault),
+        Fault::Points(fault) => table_line("points: ", fault),
         Fault::TooFewPositions { level, have, want } => line_of_count(*level, *have, *want),
         Fault::OutOfMemory => line_with("out of memory", ""),
         Fault::CannotReport => line_with("cannot write the report", ""),
@@ -54,19 +55,21 @@ fn absent_line(key: Key) -> ArrayString<512>
     line
 }
 
-fn image_line(fault: &TableFault) -> ArrayString<512>
-    ensures { result.bytes ≡ line_of (Fault.Image fault.now) }
+// The line of a file's table.
+fn table_line(file: &str, fault: &TableFault) -> ArrayString<512>
+    requires { length file.now ≤ 20 }
+    ensures { result.bytes ≡ codes "mpsim: " ++ ((file.now ++ table_reason fault.now) ++ codes "\n") }
 {
     match fault {
-        TableFault::NoTitle => line_with("image: ", "no title"),
-        TableFault::BadCount => line_at("image: ", 2, "bad count"),
-        TableFault::NoColumn => line_at("image: ", 2, "no such column"),
-        TableFault::ShortRow { line } => line_at("image: ", *line, "short row"),
-        TableFault::BadNumber { line } => line_at("image: ", *line, "bad number"),
-        TableFault::UnknownCategory { line } => line_at("image: ", *line, "unknown category"),
-        TableFault::TooFewRows { line } => line_at("image: ", *line, "too few rows"),
-        TableFault::TooManyRows { line } => line_at("image: ", *line, "too many rows"),
-        TableFault::TooLong { line } => line_at("image: ", *line, "too long"),
+        TableFault::NoTitle => line_with(file, "no title"),
+        TableFault::BadCount => line_at(file, 2, "bad count"),
+        TableFault::NoColumn => line_at(file, 2, "no such column"),
+        TableFault::ShortRow { line } => line_at(file, *line, "short row"),
+        TableFault::BadNumber { line } => line_at(file, *line, "bad number"),
+        TableFault::UnknownCategory { line } => line_at(file, *line, "unknown category"),
+        TableFault::TooFewRows { line } => line_at(file, *line, "too few rows"),
+        TableFault::TooManyRows { line } => line_at(file, *line, "too many rows"),
+        TableFault::TooLong { line } => line_at(file, *line, "too long"),
     }
 }
 

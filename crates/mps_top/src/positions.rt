@@ -1,5 +1,5 @@
 // Whether the image has enough eroded positions.
-ghost use Rattle.std.specs.Prelude.{◌≡◌, ◌≤◌, IfErr, IfOk, Ok, length};
+ghost use Rattle.std.specs.Prelude.{◌≡◌, IfErr, IfOk, Ok};
 ghost use Rattle.seq_engine.specs.Setup.{IsSetupButTarget};
 ghost use Rattle.mps_top.specs.Answers.{IsRefusal};
 ghost use Rattle.mps_top.specs.Setup.{positions_of as positions_by_level};
@@ -11,10 +11,8 @@ use std::alloc::Global;
 
 /// The number of eroded positions by level, the finest first, or the fault that they are too few.
 pub fn positions_of(alloc: Global, setup: &Setup) -> Result<ArrayVec<u32, 8>, Fault>
-    requires setup { IsSetupButTarget setup.now }
-    requires one_level { setup.now.levels ≡ 1 }
+    requires { IsSetupButTarget setup.now }
     ensures positions { IfOk result (λ positions. positions_by_level setup.now ≡ Ok positions.items) }
-    ensures some { IfOk result (λ positions. 1 ≤ length positions.items) }
     ensures fault { IfErr result (IsRefusal (positions_by_level setup.now)) }
 {
     match check_positions(alloc, setup) {

@@ -1,5 +1,5 @@
-// The simulation that parameters and an image ask for.
-ghost use Rattle.std.specs.Prelude.{◌≡◌, ◌≤◌, All, IfOk, IsNone, length, replicate};
+// The simulation that parameters, an image and hard data ask for.
+ghost use Rattle.std.specs.Prelude.{◌≡◌, ◌≤◌, All, IfOk, length, replicate};
 ghost use Rattle.mp_base.specs.Grid.{IsBelow};
 ghost use Rattle.seq_engine.specs.Setup.{IsSetup};
 ghost use Rattle.mps_top.specs.Setup.{category_counts, setup_of as setup_with, shares_of, target_of as target_with};
@@ -11,16 +11,21 @@ use servo_fraction::Target;
 use std::alloc::Global;
 use template_order::Template;
 
-/// All that the simulation is made of, by the parameters and the image.
+/// All that the simulation is made of, by the parameters, the image and the hard data.
 #[tactic(auto, unfolding(crate::specs::Setup::setup_of))]
-pub fn setup_of(alloc: Global, parameters: &Params, image: Grid) -> Result<Setup, NoMemory>
-    requires { All (IsBelow (length parameters.now.categories)) image.cells }
-    ensures setup { IfOk result (λ setup. setup ≡ setup_with parameters.now image) }
+pub fn setup_of(
+    alloc: Global,
+    parameters: &Params,
+    image: Grid,
+    hard: Grid,
+) -> Result<Setup, NoMemory>
+    requires below { All (IsBelow (length parameters.now.categories)) image.cells }
+    requires hard_sides { hard.sides ≡ parameters.now.grid }
+    requires hard_below { All (IsBelow (length parameters.now.categories)) hard.cells }
+    ensures setup { IfOk result (λ setup. setup ≡ setup_with parameters.now image hard) }
     ensures valid { IfOk result IsSetup }
     ensures image { IfOk result (λ setup. setup.image ≡ image) }
-    ensures levels { IfOk result (λ setup. setup.levels ≡ parameters.now.levels) }
     ensures cats { IfOk result (λ setup. setup.cats ≡ length parameters.now.categories) }
-    ensures no_data { IfOk result (λ setup. All IsNone setup.hard.cells) }
 {
     let cats = parameters.categories.as_slice().len() as u8;
     let target = target_of(parameters, &image, cats);
@@ -28,7 +33,7 @@ pub fn setup_of(alloc: Global, parameters: &Params, image: Grid) -> Result<Setup
         image,
         template: Template::new(alloc, parameters.radii, parameters.template)?,
         shape: parameters.grid,
-        hard: Grid::unknown(alloc, parameters.grid)?,
+        hard,
         cats,
         target,
         levels: parameters.levels,

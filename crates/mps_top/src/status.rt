@@ -25,6 +25,7 @@ pub fn fault_status(fault: &Fault) -> u8
         Fault::CannotRead { .. } => 3,
         Fault::CannotWrite { .. } => 4,
         Fault::Image(_) => 5,
+        Fault::Points(_) => 6,
         Fault::TooFewPositions { .. } => 7,
         Fault::OutOfMemory => 8,
         Fault::CannotReport => 9,

@@ -13,6 +13,17 @@ const FIVE_REPLICATES: &str =
 
 const IMAGE: &str = "line\n1\nfacies\n0\n1\n1\n0\n1\n1\n";
 
+const REPORT: &str =
+    "categories 0 1\ngrid 4 1 1\npoints 0 used 0 skipped 0\ntarget 2 4\nlevel 1 nodes 4 positions 4\nrealisation 0 counts 1 3\ndone\n";
+
+const ONES: &str = "line\n1\nfacies\n1\n1\n1\n1\n1\n1\n";
+
+const TWELVE_ONES: &str = "line\n1\nfacies\n1\n1\n1\n1\n1\n1\n1\n1\n1\n1\n1\n1\n";
+
+const WELLS: &str = "wells\n4\nX\nY\nZ\nfacies\n0 0 0 1\n1 0 0 0\n2 0 0 1\n";
+
+const BAD_WELLS: &str = "wells\n4\nX\nY\nZ\nfacies\n0 0 0 1\n1 0 0 2\n2 0 0 1\n";
+
 const REALISATION: &str = "mpsim 4 1 1 realisations 1 seed 0\n1\ncategory\n1\n1\n1\n0\n";
 
 // What came of a command: the status, and what was written to `out` and to `err`.
@@ -35,12 +46,22 @@ fn serve<R: Threads>(
     let mut words = Vec::new(alloc);
     words.push(String::from_str(alloc, verb)?)?;
     words.push(String::from_str(alloc, name)?)?;
+    serve_words(rt, alloc, files, &words, fails)
+}
+
+fn serve_words<R: Threads>(
+    rt: &R,
+    alloc: Global,
+    files: &mut MemFiles,
+    words: &[String],
+    fails: bool,
+) -> Result<Ended, Fail> {
     let mut out = MemSink::new(alloc);
     if fails {
         out.fail(1, 0)?;
     }
     let mut err = MemSink::new(alloc);
-    let status = answer_alone(rt, alloc, &words, files, &mut out, &mut err);
+    let status = answer_alone(rt, alloc, words, files, &mut out, &mut err);
     Ok(Ended {
         status,
         out: Vec::from_slice(alloc, out.bytes())?,
@@ -64,8 +85,106 @@ fn a_run_writes_its_realisation(rt: HostRuntime) -> Result<(), Fail> {
         let mut files = two_files(rt.alloc(), PARAMETERS, image)?;
         let ended = serve(&rt, rt.alloc(), &mut files, "run", "p1", false)?;
         assert_eq!(rt; ended.status, 0);
-        assert!(rt; ended.out.is_empty() && ended.err.is_empty());
+        assert!(rt; ended.err.is_empty());
+        assert_eq!(rt; ended.out.as_slice(), REPORT.as_bytes());
         assert_eq!(rt; files.get("out.dat").unwrap_or(b""), REALISATION.as_bytes());
+    }
+    Ok(())
+}
+
+#[test]
+fn points_levels_servo_and_targets_are_served(rt: HostRuntime) -> Result<(), Fail> {
+    // the lines of the image's and the grid's shape, the further lines, the image, the file and the report
+    for (shapes, more, image, file, report) in [
+        (
+            "image_shape = 6 1 1\ngrid = 3 1 1\n",
+            "points = w.dat\n",
+            IMAGE,
+            "mpsim 3 1 1 realisations 1 seed 0\n1\ncategory\n1\n0\n1\n",
+            "categories 0 1\ngrid 3 1 1\npoints 3 used 3 skipped 0\ntarget 2 4\nlevel 1 nodes 3 positions 4\nrealisation 0 counts 1 2\ndone\n",
+        ),
+        (
+            "image_shape = 12 1 1\ngrid = 3 1 1\n",
+            "levels = 3\n",
+            TWELVE_ONES,
+            "mpsim 3 1 1 realisations 1 seed 0\n1\ncategory\n1\n1\n1\n",
+            "categories 0 1\ngrid 3 1 1\npoints 0 used 0 skipped 0\ntarget 0 12\nlevel 3 nodes 1 positions 4\nlevel 2 nodes 2 positions 8\nlevel 1 nodes 3 positions 10\nrealisation 0 counts 0 3\ndone\n",
+        ),
+        (
+            "image_shape = 6 1 1\ngrid = 4 1 1\n",
+            "servo = 500\n",
+            IMAGE,
+            REALISATION,
+            REPORT,
+        ),
+        (
+            "image_shape = 6 1 1\ngrid = 2 1 1\n",
+            "realisations = 2\n",
+            ONES,
+            "mpsim 2 1 1 realisations 2 seed 0\n1\ncategory\n1\n1\n1\n1\n",
+            "categories 0 1\ngrid 2 1 1\npoints 0 used 0 skipped 0\ntarget 0 6\nlevel 1 nodes 2 positions 4\nrealisation 0 counts 0 2\nrealisation 1 counts 0 2\ndone\n",
+        ),
+        (
+            "image_shape = 6 1 1\ngrid = 2 1 1\n",
+            "servo = 999\ntargets = 1000000 0\n",
+            ONES,
+            "mpsim 2 1 1 realisations 1 seed 0\n1\ncategory\n1\n0\n",
+            "categories 0 1\ngrid 2 1 1\npoints 0 used 0 skipped 0\ntarget 1000000 0\nlevel 1 nodes 2 positions 4\nrealisation 0 counts 1 1\ndone\n",
+        ),
+    ] {
+        let parameters = format!(in rt.alloc();
+            "image = ti.dat\n{shapes}categories = 0 1\nradii = 1 0 0\ntemplate = 2\nmin_replicates = 1\noutput = out.dat\n{more}"
+        )?;
+        let mut files = two_files(rt.alloc(), &parameters, image)?;
+        files.put("w.dat", WELLS.as_bytes())?;
+        let ended = serve(&rt, rt.alloc(), &mut files, "run", "p1", false)?;
+        assert_eq!(rt; ended.status, 0, "with {more}");
+        assert!(rt; ended.err.is_empty());
+        assert_eq!(rt; ended.out.as_slice(), report.as_bytes());
+        assert_eq!(rt; files.get("out.dat").unwrap_or(b""), file.as_bytes());
+    }
+    Ok(())
+}
+
+#[test]
+fn points_and_levels_are_judged_behind_the_image(rt: HostRuntime) -> Result<(), Fail> {
+    for (more, image, status, line) in [
+        (
+            "radii = 1 0 0\ntemplate = 2\npoints = w.dat\n",
+            IMAGE,
+            6,
+            "mpsim: points: line 8: unknown category\n",
+        ),
+        (
+            "radii = 1 0 0\ntemplate = 2\npoints = w.dat\n",
+            "line\n1\nfacies\n7\n",
+            5,
+            "mpsim: image: line 4: unknown category\n",
+        ),
+        (
+            "radii = 1 0 0\ntemplate = 2\npoints = v.dat\n",
+            IMAGE,
+            3,
+            "mpsim: cannot read v.dat\n",
+        ),
+        (
+            "radii = 2 0 0\ntemplate = 4\nmin_replicates = 10\nlevels = 2\n",
+            IMAGE,
+            7,
+            "mpsim: too few positions at level 2: have 0, want 10\n",
+        ),
+    ] {
+        let parameters = format!(in rt.alloc();
+            "image = ti.dat\nimage_shape = 6 1 1\ncategories = 0 1\ngrid = 4 1 1\noutput = out.dat\n{more}"
+        )?;
+        for command in ["run", "check"] {
+            let mut files = two_files(rt.alloc(), &parameters, image)?;
+            files.put("w.dat", BAD_WELLS.as_bytes())?;
+            let ended = serve(&rt, rt.alloc(), &mut files, command, "p1", false)?;
+            assert_eq!(rt; ended.status, status, "of {line}");
+            assert_eq!(rt; ended.err.as_slice(), line.as_bytes());
+            assert!(rt; ended.out.is_empty() && files.get("out.dat").is_none());
+        }
     }
     Ok(())
 }
@@ -125,11 +244,6 @@ fn a_refused_line_of_parameters_is_told(rt: HostRuntime) -> Result<(), Fail> {
         ("grid = 4 1 1\n", "line 9: key given twice\n"),
         ("weight = 1\n", "line 9: unknown key\n"),
         ("missing = 1\n", "missing code is a category\n"),
-        ("levels = 2\n", "form not built yet\n"),
-        ("points = w.dat\n", "form not built yet\n"),
-        ("servo = 500\n", "form not built yet\n"),
-        ("targets = 400000 600000\n", "form not built yet\n"),
-        ("realisations = 2\n", "form not built yet\n"),
         ("store = list\n", "form not built yet\n"),
     ] {
         let parameters = format!(in rt.alloc(); "{PARAMETERS}{more}")?;
@@ -166,15 +280,35 @@ fn words_that_are_no_command_are_refused(rt: HostRuntime) -> Result<(), Fail> {
 
 #[test]
 fn a_failed_append_leaves_a_front_of_the_text(rt: HostRuntime) -> Result<(), Fail> {
+    for (append, added, front) in [
+        (1, 5, "mpsim"),
+        (2, 3, "mpsim 4 1 1 realisations 1 seed 0\n1\ncategory\n1\n1"),
+    ] {
+        let mut files = two_files(rt.alloc(), PARAMETERS, IMAGE)?;
+        files.fail(CallKind::Append, append, added)?;
+        let ended = serve(&rt, rt.alloc(), &mut files, "run", "p1", false)?;
+        assert_eq!(rt; ended.status, 4);
+        assert_eq!(rt;
+            ended.err.as_slice(),
+            b"mpsim: cannot write out.dat\n".as_slice()
+        );
+        assert!(rt; ended.out.is_empty());
+        assert_eq!(rt; files.get("out.dat").unwrap_or(b""), front.as_bytes());
+    }
+    Ok(())
+}
+
+#[test]
+fn a_report_that_fails_leaves_the_whole_file(rt: HostRuntime) -> Result<(), Fail> {
     let mut files = two_files(rt.alloc(), PARAMETERS, IMAGE)?;
-    files.fail(CallKind::Append, 1, 5)?;
-    let ended = serve(&rt, rt.alloc(), &mut files, "run", "p1", false)?;
-    assert_eq!(rt; ended.status, 4);
+    let ended = serve(&rt, rt.alloc(), &mut files, "run", "p1", true)?;
+    assert_eq!(rt; ended.status, 9);
+    assert!(rt; ended.out.is_empty());
     assert_eq!(rt;
         ended.err.as_slice(),
-        b"mpsim: cannot write out.dat\n".as_slice()
+        b"mpsim: cannot write the report\n".as_slice()
     );
-    assert_eq!(rt; files.get("out.dat").unwrap_or(b""), b"mpsim".as_slice());
+    assert_eq!(rt; files.get("out.dat").unwrap_or(b""), REALISATION.as_bytes());
     Ok(())
 }
 
@@ -195,5 +329,86 @@ fn a_check_tells_what_the_inputs_are(rt: HostRuntime) -> Result<(), Fail> {
         ended.err.as_slice(),
         b"mpsim: cannot write the report\n".as_slice()
     );
+    Ok(())
+}
+
+const EIGHT_CELLS: &str =
+    "image = t4.dat\nimage_shape = 8 1 1\ncategories = 0 1\ngrid = 5 1 1\nradii = 2 0 0\ntemplate = 4\nmin_replicates = 2\noutput = out.dat\n";
+
+// Three files of the commands `scan`: two of parameters, and the image of the second.
+fn scan_files(alloc: Global) -> Result<MemFiles, Fail> {
+    let mut files = two_files(alloc, PARAMETERS, IMAGE)?;
+    files.put("p4", EIGHT_CELLS.as_bytes())?;
+    files.put("t4.dat", b"line\n1\nfacies\n0\n0\n1\n1\n0\n1\n0\n0\n")?;
+    files.put("p5", FIVE_REPLICATES.as_bytes())?;
+    Ok(files)
+}
+
+// Serves `scan` over files, where the first write to `out` may be to fail.
+fn scan<R: Threads>(
+    rt: &R,
+    alloc: Global,
+    files: &mut MemFiles,
+    name: &str,
+    level: &str,
+    event: &str,
+    fails: bool,
+) -> Result<Ended, Fail> {
+    let mut words = Vec::new(alloc);
+    words.push(String::from_str(alloc, "scan")?)?;
+    words.push(String::from_str(alloc, name)?)?;
+    words.push(String::from_str(alloc, level)?)?;
+    words.push(String::from_str(alloc, event)?)?;
+    serve_words(rt, alloc, files, &words, fails)
+}
+
+#[test]
+fn a_scan_tells_the_replicates_of_an_event(rt: HostRuntime) -> Result<(), Fail> {
+    for (name, event, text) in [
+        (
+            "p1",
+            "1=1",
+            "store tree 6\nprefix 0 counts 1 3\nprefix 1 counts 1 1\nretained 1 reach 2 counts 1 1\n",
+        ),
+        (
+            "p4",
+            "1=0,3=1",
+            "store tree 15\nprefix 0 counts 1 3\nprefix 1 counts 0 2\nprefix 2 counts 0 1\nretained 1 reach 3 counts 0 2\n",
+        ),
+    ] {
+        let mut files = scan_files(rt.alloc())?;
+        let ended = scan(&rt, rt.alloc(), &mut files, name, "1", event, false)?;
+        assert_eq!(rt; ended.status, 0);
+        assert_eq!(rt; ended.out.as_slice(), text.as_bytes());
+        assert!(rt; ended.err.is_empty() && files.get("out.dat").is_none());
+        let ended = scan(&rt, rt.alloc(), &mut files, name, "1", event, true)?;
+        assert_eq!(rt; ended.status, 9);
+        assert!(rt; ended.out.is_empty());
+    }
+    Ok(())
+}
+
+#[test]
+fn words_of_a_scan_are_refused_before_the_image(rt: HostRuntime) -> Result<(), Fail> {
+    for (name, level, event, status) in [
+        ("p1", "1", "3=1", 1),
+        ("p1", "2", "none", 1),
+        ("p1", "1", "1=7", 1),
+        ("p1", "1", "1=1,1=1", 1),
+        ("p1", "0", "none", 1),
+        ("-p1", "1", "none", 1),
+        ("p9", "1", "3=1", 3),
+        ("p1", "1", "none", 5),
+        ("p5", "1", "none", 5),
+    ] {
+        let mut files = scan_files(rt.alloc())?;
+        files.put("ti.dat", b"line\n")?;
+        let ended = scan(&rt, rt.alloc(), &mut files, name, level, event, false)?;
+        assert_eq!(rt; ended.status, status, "of {name} {level} {event}");
+        assert!(rt; ended.out.is_empty());
+    }
+    let mut files = scan_files(rt.alloc())?;
+    let ended = scan(&rt, rt.alloc(), &mut files, "p5", "1", "1=1", false)?;
+    assert_eq!(rt; ended.status, 7);
     Ok(())
 }

@@ -1,8 +1,9 @@
 // The words of a command.
-ghost use Rattle.std.specs.Prelude.{◌≡◌, ◌≤◌, map, length, string_bytes};
-ghost use Rattle.mps_top.specs.Words.{command_of as command_of_words, command_over as command_over_name, is_file as is_file_text, is_name as is_name_text};
+ghost use Rattle.std.specs.Prelude.{◌≡◌, ◌≤◌, IfSome, map, length, string_bytes};
+ghost use Rattle.mps_top.specs.Words.{HasLevel, command_of as command_of_words, command_over as command_over_name, is_file as is_file_text, is_name as is_name_text, scan_over as scan_over_words};
 
 use crate::fault::Name;
+use crate::scan_words::{ScanWords, read_scan_words};
 
 /// A command, with what its words say.
 #[derive(Drop)]
@@ -11,12 +12,15 @@ pub enum Command {
     Run { parameters: Name },
     /// Judges all inputs of a run, and tells what they are.
     Check { parameters: Name },
+    /// Tells how often an event has replicates at a level.
+    Scan { parameters: Name, words: ScanWords },
 }
 
 /// The command that the words are, or nothing exactly where they are none.
 #[tactic(auto, unfolding(crate::specs::Words::command_of))]
 pub fn command_of(words: &[String]) -> Option<Command>
-    ensures { result ≡ command_of_words (map (λ w. string_bytes w) words.now) }
+    ensures command { result ≡ command_of_words (map (λ w. string_bytes w) words.now) }
+    ensures level { IfSome result HasLevel }
 {
     match words {
         [verb, name] => {
@@ -26,14 +30,46 @@ pub fn command_of(words: &[String]) -> Option<Command>
                 None
             }
         }
+        [verb, name, level, event] => {
+            if is_file(name.as_bytes()) {
+                scan_over(
+                    verb.as_str(),
+                    name.as_str(),
+                    level.as_bytes(),
+                    event.as_bytes(),
+                )
+            } else {
+                None
+            }
+        }
         _ => None,
+    }
+}
+
+// The command of a first word that takes a parameter file, a level and an event.
+fn scan_over(verb: &str, name: &str, level: &[u8], event: &[u8]) -> Option<Command>
+    requires { length name.now ≤ 255 }
+    ensures command { result ≡ scan_over_words verb.now name.now level.now event.now }
+    ensures level { IfSome result HasLevel }
+{
+    if verb == "scan" {
+        match read_scan_words(level, event) {
+            Some(words) => Some(Command::Scan {
+                parameters: Name::new(name),
+                words,
+            }),
+            None => None,
+        }
+    } else {
+        None
     }
 }
 
 // The command of a first word that takes a parameter file alone.
 fn command_over(verb: &str, name: &str) -> Option<Command>
     requires { length name.now ≤ 255 }
-    ensures { result ≡ command_over_name verb.now name.now }
+    ensures command { result ≡ command_over_name verb.now name.now }
+    ensures level { IfSome result HasLevel }
 {
     if verb == "run" {
         Some(Command::Run {

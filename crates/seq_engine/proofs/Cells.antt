@@ -7,14 +7,16 @@ use Rattle.std.proofs.lemmas.List.{length-set}
 use Rattle.std.proofs.lemmas.List.Elements.{All-set}
 use Rattle.mp_base.specs.declared.cell.Entry.{Entry}
 use Rattle.mp_base.specs.Grid.{cat_of, IsBelow}
-use Rattle.event_retrieve.specs.Plan.{with_entries}
+use Rattle.event_retrieve.specs.Plan.{Plan, cell_of, with_entries, IsPath}
+use Rattle.event_retrieve.specs.Sequential.{sequential}
+use Rattle.event_retrieve.proofs.Logs.{IsLog-sequential}
 use Rattle.event_retrieve.proofs.Fronts.{cat_of-set_same, cat_of-set_other}
 
 some_is : (k : ℕ) → IsSome (Some k)
 some_is k = search rules
 
 -- a cell that is known stays known
-stays_known : (cells : List (Option ℕ)) (c : ℕ) (log : List Entry) → c < length cells → IsSome (cat_of cells c) → IsSome (cat_of (with_entries cells log) c)
+pub stays_known : (cells : List (Option ℕ)) (c : ℕ) (log : List Entry) → c < length cells → IsSome (cat_of cells c) → IsSome (cat_of (with_entries cells log) c)
 stays_known cells c [] within some = some
 stays_known cells c (e ∷ log) within some =
     stays_known (set cells e.cell (Some e.cat)) c log (omega (arith, length-set cells e.cell (Some e.cat))) (elim (cases_eq c e.cell) [
@@ -37,3 +39,9 @@ pub below_after : (n : ℕ) (cells : List (Option ℕ)) (log : List Entry) → A
 below_after n cells [] below cats = below
 below_after n cells (e ∷ log) below cats =
     below_after n (set cells e.cell (Some e.cat)) log (All-set (IsBelow n) cells e.cell (Some e.cat) (cats 0 e (omega arith)) below) (λ k d in_log. cats (suc k) d (omega arith))
+
+-- the cells of the sequential log are inside
+pub log-inside : (p : Plan) → IsPath p → All (λ e. e.cell < length p.start.cells) (sequential p)
+log-inside p path i e in_log =
+    let at : (get_or (sequential p) i e).cell ≡ cell_of p i = (IsLog-sequential p).cells i e in_log in
+    omega (arith, path.inside i (omega (arith, (IsLog-sequential p).whole)))

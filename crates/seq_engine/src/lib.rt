@@ -1,7 +1,8 @@
-//! The simulation of realisations on one thread: node after node of a level, each from the nodes
-//! before it.
+//! The simulation of realisations on one thread: level after level, and node after node of a level,
+//! each from the nodes before it.
 #![tactic(auto)]
 
+mod kept;
 mod level;
 mod positions;
 mod realisation;

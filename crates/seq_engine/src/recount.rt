@@ -186,8 +186,8 @@ fn banded_image(alloc: Global, shape: Shape) -> Result<Grid, NoMemory>
 fn a_realisation_equals_a_plain_recount(rt: HostRuntime) -> Result<(), Fail> {
     let image = banded_image(rt.alloc(), Shape::new(IMAGE_SIDE, IMAGE_SIDE, 1)?)?;
     let template = Template::new(rt.alloc(), [2, 1, 0], 6)?;
-    let shape = Shape::new(GRID_SIDE, GRID_SIDE, 1)?;
-    let setup = setup_over(rt.alloc(), image, template, shape, MIN_REPLICATES, SEED)?;
+    let hard = Grid::unknown(rt.alloc(), Shape::new(GRID_SIDE, GRID_SIDE, 1)?)?;
+    let setup = setup_over(image, template, hard, 1, MIN_REPLICATES, SEED);
     let recounted = recounted(rt.alloc(), setup.template.vectors())?;
     let mut runner = OneThread::new(&rt, StoreKind::Scan);
     let realisation = run_realisation(rt.alloc(), &setup, 0, &mut runner)?;

@@ -1,5 +1,5 @@
 // Worked realisations, and a setup for tests.
-ghost use Rattle.std.specs.Prelude.{◌≡◌, All, IfOk, IsNone, false};
+ghost use Rattle.std.specs.Prelude.{◌≡◌, All, IfOk, false};
 ghost use Rattle.mp_base.specs.Grid.{IsBelow};
 ghost use Rattle.seq_engine.specs.Setup.{IsSetup};
 
@@ -10,50 +10,54 @@ use std::alloc::Global;
 use std::test::Fail;
 use template_order::Template;
 
-/// A setup of one level over an image of two categories, without hard data or servosystem.
+/// A setup over an image and hard data of two categories, without a servosystem.
 pub fn setup_over(
-    alloc: Global,
     image: Grid,
     template: Template,
-    shape: Shape,
+    hard: Grid,
+    levels: u8,
     min_replicates: u32,
     seed: u64,
-) -> Result<Setup, NoMemory>
+) -> Setup
     requires below { All (IsBelow 2) image.cells }
+    requires hard_below { All (IsBelow 2) hard.cells }
     requires whole { template.stretched ≡ false }
-    ensures setup { IfOk result IsSetup }
-    ensures one_level { IfOk result (λ setup. setup.levels ≡ 1) }
-    ensures no_data { IfOk result (λ setup. All IsNone setup.hard.cells) }
+    ensures { IsSetup result }
 {
-    Ok(Setup {
+    Setup {
         image,
         template,
-        shape,
-        hard: Grid::unknown(alloc, shape)?,
+        shape: hard.shape(),
+        hard,
         cats: 2,
         target: Target::new(Counts::of(&[1, 1])),
-        levels: 1,
+        levels: levels.clamp(1, 8),
         servo: 0,
         max_data: 64,
         min_replicates: min_replicates.clamp(1, 1000),
         seed,
-    })
+    }
 }
 
-// An image of one row.
+// What is written for a cell that has nothing.
+const NONE: u8 = 2;
+
+// A grid of one row.
 fn row(alloc: Global, cats: &[u8]) -> Result<Grid, NoMemory>
-    ensures { IfOk result (λ image. All (IsBelow 2) image.cells) }
+    ensures { IfOk result (λ grid. All (IsBelow 2) grid.cells) }
 {
     let count = u32::try_from(cats.len()).unwrap_or(1);
     let Ok(shape) = Shape::new(count, 1, 1) else {
         return Err(NoMemory);
     };
-    let mut image = Grid::unknown(alloc, shape)?;
+    let mut grid = Grid::unknown(alloc, shape)?;
     for number in 0..shape.cells() {
-        let cat = cats.get(number as usize).copied().unwrap_or(0) % 2;
-        image.set(CellId(number), Some(Cat(cat)));
+        let cat = cats.get(number as usize).copied().unwrap_or(NONE);
+        if cat < NONE {
+            grid.set(CellId(number), Some(Cat(cat)));
+        }
     }
-    Ok(image)
+    Ok(grid)
 }
 
 // A template along x.
@@ -67,37 +71,127 @@ fn along_x(alloc: Global, radius: u8, count: u8) -> Result<Template, NoMemory>
 fn worked_realisations(rt: HostRuntime) -> Result<(), Fail> {
     let six = [0, 1, 1, 0, 1, 1].as_slice();
     let eight = [0, 0, 1, 1, 0, 1, 0, 0].as_slice();
-    for (cats, radius, count, min_replicates, expected) in [
-        (six, 1, 2, 1, [1, 1, 1, 0].as_slice()),
-        (eight, 2, 4, 2, [1, 0, 1, 1, 1].as_slice()),
-        (six, 1, 2, 1, [1].as_slice()),
-        (six, 0, 2, 1, [1, 1, 1, 0].as_slice()),
+    let ones = [1; 12].as_slice();
+    let blank = [NONE; 5].as_slice();
+    for (cats, radius, count, min_replicates, hard, positions, expected) in [
+        (
+            six,
+            1,
+            2,
+            1,
+            &blank[..4],
+            [4].as_slice(),
+            [1, 1, 1, 0].as_slice(),
+        ),
+        (
+            eight,
+            2,
+            4,
+            2,
+            blank,
+            [4].as_slice(),
+            [1, 0, 1, 1, 1].as_slice(),
+        ),
+        (six, 1, 2, 1, &blank[..1], [4].as_slice(), [1].as_slice()),
+        (
+            six,
+            0,
+            2,
+            1,
+            &blank[..4],
+            [6].as_slice(),
+            [1, 1, 1, 0].as_slice(),
+        ),
+        (
+            ones,
+            1,
+            2,
+            1,
+            &blank[..3],
+            [10, 8, 4].as_slice(),
+            [1, 1, 1].as_slice(),
+        ),
+        (
+            six,
+            1,
+            2,
+            1,
+            [1, 0, 1].as_slice(),
+            [4].as_slice(),
+            [1, 0, 1].as_slice(),
+        ),
     ] {
         let image = row(rt.alloc(), cats)?;
         let template = along_x(rt.alloc(), radius, count)?;
-        let shape = Shape::new(u32::try_from(expected.len())?, 1, 1)?;
-        let setup = setup_over(rt.alloc(), image, template, shape, min_replicates, 0)?;
-        assert_eq!(rt; check_positions(rt.alloc(), &setup)?.len(), 1);
-        let mut runner = OneThread::new(&rt, StoreKind::Scan);
-        let realisation = run_realisation(rt.alloc(), &setup, 0, &mut runner)?;
-        assert_eq!(rt; realisation.as_bytes(), expected);
+        let hard = row(rt.alloc(), hard)?;
+        let levels = positions.len() as u8;
+        let setup = setup_over(image, template, hard, levels, min_replicates, 0);
+        assert_eq!(rt; check_positions(rt.alloc(), &setup)?.as_slice(), positions);
+        let mut scanning = OneThread::new(&rt, StoreKind::Scan);
+        let scanned = run_realisation(rt.alloc(), &setup, 0, &mut scanning)?;
+        assert_eq!(rt; scanned.as_bytes(), expected);
+        let mut walking = OneThread::new(&rt, StoreKind::Tree);
+        let walked = run_realisation(rt.alloc(), &setup, 0, &mut walking)?;
+        assert_eq!(rt; walked.as_bytes(), expected);
     }
     Ok(())
 }
 
 #[test]
-fn too_few_positions_are_named(rt: HostRuntime) -> Result<(), Fail> {
-    let image = row(rt.alloc(), &[0, 1, 1, 0, 1, 1])?;
-    let template = along_x(rt.alloc(), 1, 2)?;
-    let setup = setup_over(rt.alloc(), image, template, Shape::new(4, 1, 1)?, 5, 0)?;
-    let refused = RunError::TooFewPositions {
-        level: 1,
-        have: 4,
-        want: 5,
-    };
-    assert!(rt; check_positions(rt.alloc(), &setup).is_err_and(|error| error == refused));
-    let mut runner = OneThread::new(&rt, StoreKind::Scan);
-    let run = run_realisation(rt.alloc(), &setup, 0, &mut runner);
-    assert!(rt; run.is_err_and(|error| error == refused));
+fn the_coarsest_level_with_too_few_positions_is_named(rt: HostRuntime) -> Result<(), Fail> {
+    for (radius, count, levels, have, want) in [(1, 2, 1, 4, 5), (2, 4, 2, 0, 10)] {
+        let image = row(rt.alloc(), &[0, 1, 1, 0, 1, 1])?;
+        let template = along_x(rt.alloc(), radius, count)?;
+        let hard = row(rt.alloc(), &[NONE; 4])?;
+        let setup = setup_over(image, template, hard, levels, want, 0);
+        let refused = RunError::TooFewPositions {
+            level: levels,
+            have,
+            want,
+        };
+        assert!(rt; check_positions(rt.alloc(), &setup).is_err_and(|error| error == refused));
+        let mut runner = OneThread::new(&rt, StoreKind::Scan);
+        let run = run_realisation(rt.alloc(), &setup, 0, &mut runner);
+        assert!(rt; run.is_err_and(|error| error == refused));
+    }
+    Ok(())
+}
+
+#[test]
+fn a_runner_serves_each_setup_by_its_own_trees(rt: HostRuntime) -> Result<(), Fail> {
+    let six = [0, 1, 1, 0, 1, 1].as_slice();
+    let waves = [
+        0, 0, 1, 1, 0, 1, 0, 0, 1, 1, 1, 0, 0, 1, 0, 1, 1, 0, 0, 0, 1, 0, 1, 1, 0, 0, 1, 1, 1, 0,
+    ]
+    .as_slice();
+    let bands = [
+        1, 1, 1, 0, 0, 0, 1, 1, 1, 0, 0, 0, 0, 1, 1, 1, 1, 0, 0, 0, 1, 1, 1, 0, 0, 0, 1, 1, 1, 1,
+    ]
+    .as_slice();
+    let blank = [NONE; 20].as_slice();
+    let mut runner = OneThread::new(&rt, StoreKind::Tree);
+    for (cats, radius, count, levels, cells) in [
+        (six, 1, 2, 1, 4),
+        (waves, 2, 4, 3, 20),
+        (bands, 2, 4, 3, 20),
+        (waves, 2, 4, 3, 20),
+        (waves, 1, 2, 3, 20),
+        (bands, 2, 4, 3, 20),
+        (six, 1, 2, 1, 4),
+    ] {
+        let image = row(rt.alloc(), cats)?;
+        let template = along_x(rt.alloc(), radius, count)?;
+        let hard = row(rt.alloc(), blank.get(..cells).unwrap_or(blank))?;
+        let setup = setup_over(image, template, hard, levels, 1, 0);
+        for number in 0..2 {
+            let realisation = run_realisation(rt.alloc(), &setup, number, &mut runner)?;
+            let mut fresh = OneThread::new(&rt, StoreKind::Scan);
+            let anew = run_realisation(rt.alloc(), &setup, number, &mut fresh)?;
+            assert_eq!(rt; realisation.as_bytes(), anew.as_bytes());
+            if cells == 4 && number == 0 {
+                assert_eq!(rt; realisation.as_bytes(), [1, 1, 1, 0].as_slice());
+            }
+        }
+    }
     Ok(())
 }

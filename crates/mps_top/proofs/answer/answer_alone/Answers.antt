@@ -1,7 +1,7 @@
 use Rattle.std.proofs.Common.{sym, ◌∙◌, map, string_bytes, String, Global}
 use Rattle.mps_top.specs.Outcome.{outcome_of}
 use Rattle.mps_top.specs.Seen.{files_seen, sink_seen}
-use Rattle.mps_top.proofs.Serving.{no_command, usage_cause}
+use Rattle.mps_top.proofs.Serving.{usage_cause}
 use Rattle.mps_top.proofs.answer.answer_alone.Goals as goal
 
 pub returns-clause-usage : goal.returns-clause-usage
@@ -11,4 +11,4 @@ returns-clause-usage g c =
     let now = files_seen g.F.Files.tells g.F.Files.held g.F.Files.reads g.F.Files.writes c.serve-answer.new.files in
     let out = sink_seen g.O.Sink.tells g.O.Sink.written g.O.Sink.faults c.args.out.now in
     let told = sink_seen g.O.Sink.tells g.O.Sink.written g.O.Sink.faults c.serve-answer.new.out in
-    λ is. no_command words (usage_cause (outcome_of words) before now out told c.serve-answer.result c.serve-answer.ensures.serves.cause (sym c.status.ensures ∙ is))
+    λ is. usage_cause (outcome_of words) before now out told c.serve-answer.result c.serve-answer.ensures.serves.cause (sym c.status.ensures ∙ is)

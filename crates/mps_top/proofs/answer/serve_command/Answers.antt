@@ -10,4 +10,5 @@ returns-in-Run g c =
     let before = files_seen g.F.Files.tells g.F.Files.held g.F.Files.reads g.F.Files.writes c.args.files.now in
     let now = files_seen g.F.Files.tells g.F.Files.held g.F.Files.reads g.F.Files.writes c.run.new.files in
     let out = sink_seen g.O.Sink.tells g.O.Sink.written g.O.Sink.faults c.args.out.now in
-    subst (λ (command : Command). Serves (outcome_for command) before now out out c.run.result) (sym c.in-Run.is) (c.run.ensures out)
+    let told = sink_seen g.O.Sink.tells g.O.Sink.written g.O.Sink.faults c.run.new.out in
+    subst (λ (command : Command). Serves (outcome_for command) before now out told c.run.result) (sym c.in-Run.is) c.run.ensures

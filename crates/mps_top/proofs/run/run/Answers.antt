@@ -1,6 +1,6 @@
 use Rattle.mps_top.specs.Inputs.{inputs_of}
 use Rattle.mps_top.specs.Outcome.{run_of}
-use Rattle.mps_top.specs.Seen.{files_seen}
+use Rattle.mps_top.specs.Seen.{files_seen, sink_seen}
 use Rattle.mps_top.proofs.Ending.{inputs_accepted}
 use Rattle.mps_top.proofs.run.run.Goals as goal
 
@@ -9,6 +9,7 @@ returns-in-Ok g c =
     let before = files_seen g.F.Files.tells g.F.Files.held g.F.Files.reads g.F.Files.writes c.args.files.now in
     let mid = files_seen g.F.Files.tells g.F.Files.held g.F.Files.reads g.F.Files.writes c.read_inputs.new.files in
     let now = files_seen g.F.Files.tells g.F.Files.held g.F.Files.reads g.F.Files.writes c.simulate.new.files in
-    λ sink.
-    inputs_accepted (inputs_of c.args.parameters.now) run_of before mid sink c.in-Ok.inputs now sink c.in-Ok.ensures.read c.in-Ok.ensures.only.tells_same c.in-Ok.ensures.only.held_same
-    c.in-Ok.ensures.only.writes_same c.simulate.result (c.simulate.ensures sink)
+    let out = sink_seen g.O.Sink.tells g.O.Sink.written g.O.Sink.faults c.args.out.now in
+    let told = sink_seen g.O.Sink.tells g.O.Sink.written g.O.Sink.faults c.simulate.new.out in
+    inputs_accepted (inputs_of c.args.parameters.now) run_of before mid out c.in-Ok.inputs now told c.in-Ok.ensures.read c.in-Ok.ensures.only.tells_same c.in-Ok.ensures.only.held_same
+    c.in-Ok.ensures.only.writes_same c.simulate.result c.simulate.ensures

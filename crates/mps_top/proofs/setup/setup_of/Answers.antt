@@ -17,7 +17,7 @@ returns-clause-valid c =
       image = c.args.image;
       template = c.in_ok-new.field-0;
       shape = c.parameters.inside.grid;
-      hard = c.in_ok-unknown.field-0;
+      hard = c.args.hard;
       cats = length c.as_slice.result.now;
       target = c.target_of-target.result;
       levels = c.parameters.inside.levels;
@@ -26,5 +26,5 @@ returns-clause-valid c =
       min_replicates = c.parameters.inside.min_replicates;
       seed = c.parameters.inside.seed;
     } in
-    let same : made ≡ setup_of c.args.parameters.now c.args.image = search rules in
-    subst IsSetup (sym same) (is_setup c.args.parameters.now c.args.image (subst IsParams c.parameters.view_is c.parameters.invariant) c.requires)
+    let same : made ≡ setup_of c.args.parameters.now c.args.image c.args.hard = search rules in
+    subst IsSetup (sym same) (is_setup c.args.parameters.now c.args.image c.args.hard (subst IsParams c.parameters.view_is c.parameters.invariant) c.requires.below c.requires.hard_sides c.requires.hard_below)

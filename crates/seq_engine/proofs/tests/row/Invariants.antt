@@ -5,6 +5,6 @@ use Rattle.seq_engine.proofs.tests.row.Given as goal
 
 abbrev pub invariant-loop-number : goal.invariant-loop-number
 invariant-loop-number l = record {
-  sides : l.image.sides ≡ l.initial.image.sides;
-  below : All (IsBelow 2) l.image.cells;
+  sides : l.grid.sides ≡ l.initial.grid.sides;
+  below : All (IsBelow 2) l.grid.cells;
 }

@@ -1,0 +1,12 @@
+-- Words that are no command by their number.
+use Rattle.std.proofs.Common.{◌≡◌, ◌≢◌, refl, ℕ, List, [], ◌∷◌, length, None}
+use Rattle.mps_top.specs.Words.{command_of}
+
+pub not_so_many : (words : List (List ℕ)) → length words ≢ 2 → length words ≢ 4 → None ≡ command_of words
+unfolding command_of
+not_so_many [] two four = refl
+not_so_many (a ∷ []) two four = refl
+not_so_many (a ∷ b ∷ []) two four = absurd (two refl)
+not_so_many (a ∷ b ∷ c ∷ []) two four = refl
+not_so_many (a ∷ b ∷ c ∷ d ∷ []) two four = absurd (four refl)
+not_so_many (a ∷ b ∷ c ∷ d ∷ e ∷ more) two four = refl

@@ -1,0 +1,156 @@
+// Search trees that are kept, each with what it was built from, for further levels over the same.
+ghost use Rattle.std.specs.Prelude.{◌≡◌, ◌≤◌, ◌⊎◌, ◌*◌, ◌^◌, [], ◌∷◌, ◌++◌, IfOk, IfSome, IsTrue};
+ghost use Rattle.ti_scan.specs.Event.{StandsFor};
+ghost use Rattle.search_tree.specs.Patterns.{pattern_counts, reach_of};
+ghost use Rattle.seq_engine.specs.Kept.{bytes_in};
+
+use mp_base::{Grid, NoMemory, Vector};
+use search_tree::SearchTree;
+use std::alloc::Global;
+use std::marker::Model;
+use ti_scan::Eroded;
+
+// How many trees are kept at most: as many as a setup has levels.
+const MOST_TREES: usize = 8;
+
+// How many bytes the nodes of all kept trees take at most.
+const MOST_BYTES: u64 = 1 << 28;
+
+/// A search tree with copies of the image and of the template that it was built from.
+#[derive(Drop)]
+pub struct KeptTree {
+    image: Grid,
+    vectors: Vec<Vector>,
+    cats: u8,
+    tree: SearchTree,
+}
+
+impl Model for KeptTree {
+    ghost use Rattle.ti_scan.specs.Event.{Source, StandsFor};
+    ghost use Rattle.search_tree.specs.Patterns.{pattern_counts, reach_of};
+    ghost use Rattle.seq_engine.specs.Kept.{Kept};
+
+    ghost Value = { Kept };
+
+    ghost view = { λ k. record { source = record { image = k.image; template = k.vectors.items; cats = k.cats }; nodes = k.tree.nodes } };
+
+    ghost invariant = { λ k. StandsFor pattern_counts reach_of k.tree (record { image = k.image; template = k.vectors.items; cats = k.cats }) };
+}
+
+// Whether two images are cell for cell the same, seen by their bytes.
+fn is_same_image(image: &Grid, other: &Grid) -> bool
+    ensures { IsTrue result → image.now ≡ other.now }
+{
+    image.shape() == other.shape() && image.as_bytes() == other.as_bytes()
+}
+
+// Whether two templates have the same vectors in the same order.
+fn are_same_vectors(vectors: &[Vector], others: &[Vector]) -> bool
+    ensures { IsTrue result → vectors.now ≡ others.now }
+{
+    vectors == others
+}
+
+// How many bytes the nodes of a tree take.
+fn bytes_of_nodes(nodes: u32, cats: u8) -> u64
+    requires { cats ≤ 8 }
+    ensures { result ≡ nodes * cats * 8 }
+{
+    u64::from(nodes) * u64::from(cats) * 8
+}
+
+impl KeptTree {
+    // The tree with copies of what it was built from.
+    fn new(alloc: Global, eroded: &Eroded<'_>, tree: SearchTree) -> Result<KeptTree, NoMemory>
+        requires { StandsFor pattern_counts reach_of tree eroded.now }
+        ensures { IfOk result (λ kept. kept ≡ record { source = eroded.now; nodes = tree.nodes }) }
+    {
+        let image = eroded.image().copy(alloc)?;
+        let vectors = eroded.template().vectors().to_vec(alloc)?;
+        Ok(KeptTree {
+            image,
+            vectors,
+            cats: eroded.cats(),
+            tree,
+        })
+    }
+
+    // Whether it was built from this.
+    fn is_of(&self, eroded: &Eroded<'_>) -> bool
+        ensures { IsTrue result → self.now.source ≡ eroded.now }
+    {
+        self.cats == eroded.cats()
+            && are_same_vectors(self.vectors.as_slice(), eroded.template().vectors())
+            && is_same_image(&self.image, eroded.image())
+    }
+
+    // The tree.
+    fn tree(&self) -> &SearchTree
+        ensures { StandsFor pattern_counts reach_of result.now self.now.source }
+    {
+        &self.tree
+    }
+}
+
+/// The trees that a runner has built and kept. Their nodes take at most 2^28 bytes.
+#[derive(Drop)]
+pub struct KeptTrees {
+    trees: Vec<KeptTree>,
+    bytes: u64,
+}
+
+impl Model for KeptTrees {
+    ghost use Rattle.std.specs.Prelude.{◌≡◌, ◌≤◌, ◌^◌, List};
+    ghost use Rattle.seq_engine.specs.Kept.{Kept, bytes_in};
+
+    ghost Value = { List Kept };
+
+    ghost view = { λ k. k.trees.items };
+
+    ghost invariant = { λ k. (k.bytes ≡ bytes_in k.trees.items) × (k.bytes ≤ 2 ^ 28) };
+}
+
+impl KeptTrees {
+    /// No trees.
+    pub fn new(alloc: Global) -> KeptTrees
+        ensures { result ≡ [] }
+    {
+        KeptTrees {
+            trees: Vec::new(alloc),
+            bytes: 0,
+        }
+    }
+
+    /// A kept tree of these eroded positions: one that was built from the same image, template and
+    /// number of categories.
+    pub fn find(&self, eroded: &Eroded<'_>) -> Option<&SearchTree>
+        ensures { IfSome result (λ tree. StandsFor pattern_counts reach_of tree.now eroded.now) }
+    {
+        for kept in self.trees.as_slice() {
+            if kept.is_of(eroded) {
+                return Some(kept.tree());
+            }
+        }
+        None
+    }
+
+    /// Keeps the tree of these eroded positions. It is let go instead where there are enough trees,
+    /// where the nodes of all would take too many bytes, or where memory for the copies runs out.
+    pub fn keep(&mut self, alloc: Global, eroded: &Eroded<'_>, tree: SearchTree)
+        requires { StandsFor pattern_counts reach_of tree eroded.now }
+        ensures kept { (self.new ≡ self.old) ⊎ (self.new ≡ self.old ++ (record { source = eroded.now; nodes = tree.nodes }) ∷ []) }
+        ensures few { bytes_in self.new ≤ 2 ^ 28 }
+    {
+        let _source = eroded.positions();
+        let bytes = self.bytes + bytes_of_nodes(tree.nodes(), eroded.cats());
+        if self.trees.len() >= MOST_TREES || bytes > MOST_BYTES {
+            return;
+        }
+        let Ok(kept) = KeptTree::new(alloc, eroded, tree) else {
+            return;
+        };
+        if self.trees.push(kept).is_ok() {
+            self.bytes = bytes;
+        }
+    }
+}
