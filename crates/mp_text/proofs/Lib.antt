@@ -1,0 +1,4 @@
+pub mod Places
+pub mod Items
+pub mod LineLemmas
+pub mod FieldLemmas
