@@ -1,5 +1,5 @@
 // Reading a file to its end, up to a limit.
-ghost use Rattle.std.specs.Prelude.{◌≡◌, ◌<◌, ◌≤◌, ◌^◌, ◌+◌, length, [], IsTrue};
+ghost use Rattle.std.specs.Prelude.{◌≡◌, ◌<◌, ◌≤◌, ◌^◌, ◌+◌, length, [], IfOk, IsTrue, vec_len};
 ghost use Rattle.mp_outside.specs.Causes.{FailsOnlyIf};
 ghost use Rattle.mp_outside.specs.Contents.{ReadsUpTo};
 ghost use Rattle.mp_outside.specs.Seen.{OnlyReads, ReadFailed};
@@ -10,9 +10,11 @@ use std::alloc::Global;
 // What one read asks for.
 const PIECE: usize = 65536;
 
-/// Reads a file to its end, or until it has more bytes than the limit. The answer is the whole
-/// file exactly where its length is at most the limit; a longer answer is a part of the file, and
-/// says that the file is too long.
+/// Reads a file up to a limit. Of a file whose length is at most the limit the answer is the whole
+/// file; of a longer one its first bytes, one more than the limit, which says that it is too long.
+/// No read asks for a byte behind these.
+///
+/// `Failed` is that of a read. A file that isn't held fails.
 pub fn read_to_limit<F: Files>(
     alloc: Global,
     files: &mut F,
@@ -21,6 +23,7 @@ pub fn read_to_limit<F: Files>(
 ) -> Result<Vec<u8>, OutFault>
     requires { limit ≤ 2 ^ 28 }
     ensures bytes { IsTrue (F.seen files.old).tells → ReadsUpTo limit ((F.seen files.old).held name.now) result }
+    ensures size { IfOk result (λ got. vec_len got ≤ limit + 1) }
     ensures cause { FailsOnlyIf result (ReadFailed name.now (F.seen files.old) (F.seen files.new)) }
     ensures only { OnlyReads (F.seen files.old) (F.seen files.new) }
 {
@@ -39,12 +42,15 @@ fn read_pieces<F: Files>(
     requires limit { limit ≤ 2 ^ 28 }
     requires room { 0 < length buf.old }
     ensures bytes { IsTrue (F.seen files.old).tells → ReadsUpTo limit ((F.seen files.old).held name.now) result }
+    ensures size { IfOk result (λ got. vec_len got ≤ limit + 1) }
     ensures cause { FailsOnlyIf result (ReadFailed name.now (F.seen files.old) (F.seen files.new)) }
     ensures only { OnlyReads (F.seen files.old) (F.seen files.new) }
 {
     let mut bytes = Vec::new(alloc);
     while bytes.len() <= limit as usize {
-        let count = files.read_at(name, bytes.len() as u64, buf)?;
+        let at = bytes.len();
+        let room = buf.len().min(limit as usize + 1 - at);
+        let count = files.read_at(name, at as u64, &mut buf[..room])?;
         if count == 0 {
             return Ok(bytes);
         }
