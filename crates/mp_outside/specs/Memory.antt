@@ -1,9 +1,9 @@
 -- What files and sinks in memory hold, their counts of faults, and the calls that are to fail.
-use Rattle.std.specs.Prelude.{◌≡◌, ◌≢◌, ◌⊎◌, ℕ, Bool, true, List, Option, option_map, Result, IsSome, IsNone, IfSome}
+use Rattle.std.specs.Prelude.{◌≡◌, ◌≢◌, ◌⊎◌, ℕ, true, List, Option, option_map, Result, IsSome, IsNone, IfSome}
 use Rattle.std.specs.Option.{option_map_or}
 use Rattle.std.specs.BTreeMap.{get_by_text}
 use Rattle.mp_outside.specs.Calls.{CallPlan, no_call, FailsAsDue}
-use Rattle.mp_outside.specs.Causes.{count_after}
+use Rattle.mp_outside.specs.Causes.{one_more}
 use Rattle.mp_outside.specs.Contents.{Held}
 use Rattle.mp_outside.specs.Seen.{FilesSeen, SinkSeen}
 use Rattle.mp_outside.specs.declared.files.OutFault.{OutFault}
@@ -26,11 +26,10 @@ write_count m name = option_map_or (λ f. f.writes) (get_by_text m.files name) m
 abbrev pub files_seen : MemFiles → FilesSeen
 files_seen m = record { tells = true; held = content m; reads = read_count m; writes = write_count m }
 
--- What a call under a name makes of the counts of its kind, where it failed and where not. All names under which nothing
--- is held have one count. No call changes the count of a name that has another.
-pub record Counts (failed : Bool) (held : Held) (name : List ℕ) (before now : List ℕ → ℕ) : Type 0 where
-  pub here : now name ≡ count_after failed (before name)
-  pub not_held : IsNone (held name) → (other : List ℕ) → IsNone (held other) → now other ≡ count_after failed (before other)
+-- A fault under a name is counted there, and under all names that hold nothing where it is one of them. No other count changes.
+pub record CountsFault (held : Held) (name : List ℕ) (before now : List ℕ → ℕ) : Type 0 where
+  pub here : now name ≡ one_more (before name)
+  pub not_held : IsNone (held name) → (other : List ℕ) → IsNone (held other) → now other ≡ one_more (before other)
   pub others : (other : List ℕ) → other ≢ name → IsSome (held name) ⊎ IsSome (held other) → now other ≡ before other
 
 -- the calls of each kind

@@ -39,10 +39,22 @@ pub record OnlyWrites (name : List ℕ) (before now : FilesSeen) : Type 0 where
 abbrev pub ReadFailed : List ℕ → FilesSeen → FilesSeen → Type 0
 ReadFailed name before now = Rose (before.reads name) (now.reads name)
 
+-- no read failed, under any name
+abbrev pub NoReadFailed : FilesSeen → FilesSeen → Type 0
+NoReadFailed before now = SameCounts before.reads now.reads
+
 -- a create or an append under the name failed
 abbrev pub WriteFailed : List ℕ → FilesSeen → FilesSeen → Type 0
 WriteFailed name before now = Rose (before.writes name) (now.writes name)
 
+-- no create or append failed, under any name
+abbrev pub NoWriteFailed : FilesSeen → FilesSeen → Type 0
+NoWriteFailed before now = SameCounts before.writes now.writes
+
 -- a write to the sink failed
 abbrev pub SinkFailed : SinkSeen → SinkSeen → Type 0
 SinkFailed before now = Rose before.faults now.faults
+
+-- no write to the sink failed
+abbrev pub SinkDidNotFail : SinkSeen → SinkSeen → Type 0
+SinkDidNotFail before now = now.faults ≡ before.faults

@@ -1,8 +1,8 @@
 // Files, as the program sees them, and the faults of their calls.
-ghost use Rattle.std.specs.Prelude.{◌≡◌, ◌^◌, ◌≤◌, length, IfOk, IsTrue, IsSome, OnErr};
-ghost use Rattle.mp_outside.specs.Causes.{FailsOnlyIf};
+ghost use Rattle.std.specs.Prelude.{◌≡◌, ◌^◌, ◌≤◌, length, IfOk, IsTrue, IsSome, OnOk, OnErr};
+ghost use Rattle.mp_outside.specs.Causes.{FailsOnlyIf, UnlessFailed};
 ghost use Rattle.mp_outside.specs.Contents.{ReadsAt, Creates, Appends};
-ghost use Rattle.mp_outside.specs.Seen.{FilesSeen, OnlyReads, OnlyWrites, ReadFailed, WriteFailed};
+ghost use Rattle.mp_outside.specs.Seen.{FilesSeen, OnlyReads, OnlyWrites, ReadFailed, NoReadFailed, WriteFailed, NoWriteFailed};
 ghost use Rattle.mp_outside.specs.declared.files.OutFault.TheVariants.{Failed as FailedFault, NoMemory as WantOfMemory};
 
 use mp_base::NoMemory;
@@ -55,8 +55,8 @@ impl<T: Drop> From<AllocFailed<T>> for OutFault {
 
 /// Files by name. For each name there is a count of the faults of reads, and one of the faults of
 /// creates and appends. No count ever falls. A call answers `Failed` only where its count for the
-/// name handed in is greater afterwards, or stands at `u64::MAX`. No call changes what another
-/// name holds.
+/// name handed in is greater afterwards, or stands at `u64::MAX`, and any other answer leaves all
+/// counts as they were. No call changes what another name holds.
 pub trait Files {
     /// Whether they tell what they hold, this, and their counts.
     ghost seen: { Self → FilesSeen };
@@ -69,6 +69,7 @@ pub trait Files {
         ensures bound { IfOk result (λ count. count ≤ length buf.new) }
         ensures bytes { IsTrue (seen self.old).tells → ReadsAt ((seen self.old).held name.now) at result buf.new }
         ensures cause { OnErr result (ReadFailed name.now (seen self.old) (seen self.new)) }
+        ensures uncounted { OnOk result (NoReadFailed (seen self.old) (seen self.new)) }
         ensures only { OnlyReads (seen self.old) (seen self.new) };
 
     /// Leaves an empty file under the name. After an error the name holds what it held, or the
@@ -76,6 +77,7 @@ pub trait Files {
     fn create(&mut self, name: &str) -> Result<(), OutFault>
         ensures made { IsTrue (seen self.old).tells → Creates ((seen self.old).held name.now) ((seen self.new).held name.now) result }
         ensures cause { FailsOnlyIf result (WriteFailed name.now (seen self.old) (seen self.new)) }
+        ensures uncounted { UnlessFailed result (NoWriteFailed (seen self.old) (seen self.new)) }
         ensures only { OnlyWrites name.now (seen self.old) (seen self.new) };
 
     /// Adds a piece to the file under the name. After `Failed` the first bytes of the piece may
@@ -84,5 +86,6 @@ pub trait Files {
         requires { IsTrue (seen self.old).tells → IsSome ((seen self.old).held name.now) }
         ensures added { IsTrue (seen self.old).tells → Appends ((seen self.old).held name.now) ((seen self.new).held name.now) piece.now result }
         ensures cause { FailsOnlyIf result (WriteFailed name.now (seen self.old) (seen self.new)) }
+        ensures uncounted { UnlessFailed result (NoWriteFailed (seen self.old) (seen self.new)) }
         ensures only { OnlyWrites name.now (seen self.old) (seen self.new) };
 }

@@ -1,8 +1,8 @@
 // Reading a file to its end, up to a limit.
 ghost use Rattle.std.specs.Prelude.{◌≡◌, ◌<◌, ◌≤◌, ◌^◌, ◌+◌, length, [], IfOk, IsTrue, vec_len};
-ghost use Rattle.mp_outside.specs.Causes.{FailsOnlyIf};
+ghost use Rattle.mp_outside.specs.Causes.{FailsOnlyIf, UnlessFailed};
 ghost use Rattle.mp_outside.specs.Contents.{ReadsUpTo};
-ghost use Rattle.mp_outside.specs.Seen.{OnlyReads, ReadFailed};
+ghost use Rattle.mp_outside.specs.Seen.{OnlyReads, ReadFailed, NoReadFailed};
 
 use crate::files::{Files, OutFault};
 use std::alloc::Global;
@@ -25,6 +25,7 @@ pub fn read_to_limit<F: Files>(
     ensures bytes { IsTrue (F.seen files.old).tells → ReadsUpTo limit ((F.seen files.old).held name.now) result }
     ensures size { IfOk result (λ got. vec_len got ≤ limit + 1) }
     ensures cause { FailsOnlyIf result (ReadFailed name.now (F.seen files.old) (F.seen files.new)) }
+    ensures uncounted { UnlessFailed result (NoReadFailed (F.seen files.old) (F.seen files.new)) }
     ensures only { OnlyReads (F.seen files.old) (F.seen files.new) }
 {
     let mut buf = vec![in alloc; 0; PIECE]?;
@@ -44,6 +45,7 @@ fn read_pieces<F: Files>(
     ensures bytes { IsTrue (F.seen files.old).tells → ReadsUpTo limit ((F.seen files.old).held name.now) result }
     ensures size { IfOk result (λ got. vec_len got ≤ limit + 1) }
     ensures cause { FailsOnlyIf result (ReadFailed name.now (F.seen files.old) (F.seen files.new)) }
+    ensures uncounted { UnlessFailed result (NoReadFailed (F.seen files.old) (F.seen files.new)) }
     ensures only { OnlyReads (F.seen files.old) (F.seen files.new) }
 {
     let mut bytes = Vec::new(alloc);

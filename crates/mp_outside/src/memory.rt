@@ -125,12 +125,12 @@ impl MemFiles {
 
 // Beside what all files promise, each method says which of its calls fail.
 impl Files for MemFiles {
-    ghost use Rattle.std.specs.Prelude.{◌^◌, ◌≤◌, ◌↔◌, ◌⊎◌, length, is_err, IsTrue, IfOk, IsErr, IsErrOf, IsSome, IsNone};
+    ghost use Rattle.std.specs.Prelude.{◌^◌, ◌≤◌, ◌↔◌, ◌⊎◌, length, IsTrue, IfOk, IsErr, IsErrOf, IsSome, IsNone};
     ghost use Rattle.mp_outside.specs.Calls.{due, counted};
-    ghost use Rattle.mp_outside.specs.Causes.{FailsOnlyIf, is_failed};
+    ghost use Rattle.mp_outside.specs.Causes.{FailsOnlyIf, UnlessFailed};
     ghost use Rattle.mp_outside.specs.Contents.{ReadsAt, Creates, Appends};
-    ghost use Rattle.mp_outside.specs.Seen.{OnlyReads, OnlyWrites, ReadFailed, WriteFailed};
-    ghost use Rattle.mp_outside.specs.Memory.{content, read_count, write_count, files_seen, plans, with_plan, Counts, FailsAsDueAt};
+    ghost use Rattle.mp_outside.specs.Seen.{OnlyReads, OnlyWrites, ReadFailed, NoReadFailed, WriteFailed, NoWriteFailed};
+    ghost use Rattle.mp_outside.specs.Memory.{content, read_count, write_count, files_seen, plans, with_plan, CountsFault, FailsAsDueAt};
 
     ghost seen = { files_seen };
 
@@ -141,8 +141,9 @@ impl Files for MemFiles {
         ensures bytes { ReadsAt (content self.old name.now) at result buf.new }
         ensures fails { IsErr result ↔ (IsNone (content self.old name.now) ⊎ IsSome (due (plans self.old).reads)) }
         ensures plans { plans self.new ≡ with_plan CallKind.Read counted (plans self.old) }
-        ensures counts { Counts (is_err result) (content self.old) name.now (read_count self.old) (read_count self.new) }
+        ensures counted { OnErr result (CountsFault (content self.old) name.now (read_count self.old) (read_count self.new)) }
         ensures cause { OnErr result (ReadFailed name.now (files_seen self.old) (files_seen self.new)) }
+        ensures uncounted { OnOk result (NoReadFailed (files_seen self.old) (files_seen self.new)) }
         ensures only { OnlyReads (files_seen self.old) (files_seen self.new) }
     {
         let due = self.read_calls.count_call();
@@ -167,8 +168,9 @@ impl Files for MemFiles {
         ensures made { Creates (content self.old name.now) (content self.new name.now) result }
         ensures fails { IsErrOf result OutFault.Failed ↔ IsSome (due (plans self.old).creates) }
         ensures plans { plans self.new ≡ with_plan CallKind.Create counted (plans self.old) }
-        ensures counts { Counts (is_failed result) (content self.old) name.now (write_count self.old) (write_count self.new) }
+        ensures counted { FailsOnlyIf result (CountsFault (content self.old) name.now (write_count self.old) (write_count self.new)) }
         ensures cause { FailsOnlyIf result (WriteFailed name.now (files_seen self.old) (files_seen self.new)) }
+        ensures uncounted { UnlessFailed result (NoWriteFailed (files_seen self.old) (files_seen self.new)) }
         ensures only { OnlyWrites name.now (files_seen self.old) (files_seen self.new) }
     {
         let due = self.create_calls.count_call();
@@ -192,8 +194,9 @@ impl Files for MemFiles {
         ensures added { Appends (content self.old name.now) (content self.new name.now) piece.now result }
         ensures fails { FailsAsDueAt (due (plans self.old).appends) (content self.old name.now) (content self.new name.now) piece.now result }
         ensures plans { plans self.new ≡ with_plan CallKind.Append counted (plans self.old) }
-        ensures counts { Counts (is_failed result) (content self.old) name.now (write_count self.old) (write_count self.new) }
+        ensures counted { FailsOnlyIf result (CountsFault (content self.old) name.now (write_count self.old) (write_count self.new)) }
         ensures cause { FailsOnlyIf result (WriteFailed name.now (files_seen self.old) (files_seen self.new)) }
+        ensures uncounted { UnlessFailed result (NoWriteFailed (files_seen self.old) (files_seen self.new)) }
         ensures only { OnlyWrites name.now (files_seen self.old) (files_seen self.new) }
     {
         let due = self.append_calls.count_call();

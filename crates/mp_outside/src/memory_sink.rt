@@ -56,10 +56,10 @@ impl MemSink {
 impl Sink for MemSink {
     ghost use Rattle.std.specs.Prelude.{◌≤◌};
     ghost use Rattle.mp_outside.specs.Calls.{due, counted, FailsAsDue};
-    ghost use Rattle.mp_outside.specs.Causes.{FailsOnlyIf, count_after, is_failed};
+    ghost use Rattle.mp_outside.specs.Causes.{FailsOnlyIf, UnlessFailed, one_more};
     ghost use Rattle.mp_outside.specs.Contents.{Adds};
     ghost use Rattle.mp_outside.specs.Memory.{sink_bytes, sink_faults, sink_plan, sink_seen};
-    ghost use Rattle.mp_outside.specs.Seen.{SinkFailed};
+    ghost use Rattle.mp_outside.specs.Seen.{SinkFailed, SinkDidNotFail};
 
     ghost seen = { sink_seen };
 
@@ -67,8 +67,9 @@ impl Sink for MemSink {
         ensures added { Adds (sink_bytes self.old) (sink_bytes self.new) piece.now result }
         ensures fails { FailsAsDue (due (sink_plan self.old)) (sink_bytes self.old) (sink_bytes self.new) piece.now result }
         ensures plan { sink_plan self.new ≡ counted (sink_plan self.old) }
-        ensures count { sink_faults self.new ≡ count_after (is_failed result) (sink_faults self.old) }
+        ensures counted { FailsOnlyIf result (sink_faults self.new ≡ one_more (sink_faults self.old)) }
         ensures cause { FailsOnlyIf result (SinkFailed (sink_seen self.old) (sink_seen self.new)) }
+        ensures uncounted { UnlessFailed result (SinkDidNotFail (sink_seen self.old) (sink_seen self.new)) }
         ensures later { sink_faults self.old ≤ sink_faults self.new }
     {
         match self.calls.count_call() {

@@ -2,10 +2,10 @@
 ghost use Rattle.std.specs.Prelude.{◌≡◌, ◌≤◌, ◌↔◌, IsTrue, IsErrOf, IsNone, Some, None};
 ghost use Rattle.std.specs.BTreeMap.{get_by_text};
 ghost use Rattle.mp_outside.specs.Calls.{FailsAsDue};
-ghost use Rattle.mp_outside.specs.Causes.{FailsOnlyIf, count_after, is_failed};
+ghost use Rattle.mp_outside.specs.Causes.{FailsOnlyIf, UnlessFailed, one_more};
 ghost use Rattle.mp_outside.specs.Contents.{Creates, Appends};
-ghost use Rattle.mp_outside.specs.Memory.{content, write_count, files_seen, plans, Counts};
-ghost use Rattle.mp_outside.specs.Seen.{OnlyWrites, WriteFailed};
+ghost use Rattle.mp_outside.specs.Memory.{content, write_count, files_seen, plans, CountsFault};
+ghost use Rattle.mp_outside.specs.Seen.{OnlyWrites, WriteFailed, NoWriteFailed};
 
 use super::{MemFile, MemFiles};
 use crate::files::OutFault;
@@ -17,8 +17,9 @@ pub fn create_new(files: &mut MemFiles, name: &str, fails: bool) -> Result<(), O
     ensures made { Creates None (content files.new name.now) result }
     ensures fails { IsErrOf result OutFault.Failed ↔ IsTrue fails }
     ensures plans { plans files.new ≡ plans files.old }
-    ensures counts { Counts (is_failed result) (content files.old) name.now (write_count files.old) (write_count files.new) }
+    ensures counted { FailsOnlyIf result (CountsFault (content files.old) name.now (write_count files.old) (write_count files.new)) }
     ensures cause { FailsOnlyIf result (WriteFailed name.now (files_seen files.old) (files_seen files.new)) }
+    ensures uncounted { UnlessFailed result (NoWriteFailed (files_seen files.old) (files_seen files.new)) }
     ensures only { OnlyWrites name.now (files_seen files.old) (files_seen files.new) }
 {
     if fails {
@@ -39,7 +40,8 @@ pub fn create_new(files: &mut MemFiles, name: &str, fails: bool) -> Result<(), O
 pub fn append_to(file: &mut MemFile, piece: &[u8], added: Option<u32>) -> Result<(), OutFault>
     ensures added { Appends (Some file.old.bytes.items) (Some file.new.bytes.items) piece.now result }
     ensures fails { FailsAsDue added file.old.bytes.items file.new.bytes.items piece.now result }
-    ensures writes { file.new.writes ≡ count_after (is_failed result) file.old.writes }
+    ensures counted { FailsOnlyIf result (file.new.writes ≡ one_more file.old.writes) }
+    ensures uncounted { UnlessFailed result (file.new.writes ≡ file.old.writes) }
     ensures later { file.old.writes ≤ file.new.writes }
     ensures reads { file.new.reads ≡ file.old.reads }
 {

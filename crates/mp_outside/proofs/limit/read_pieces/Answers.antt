@@ -17,6 +17,7 @@ loop-bytes-preserved g c =
     let long : length (got ++ piece) ≡ length got + count = length-append got piece ∙ ap (λ n. length got + n) (length-take-le count c.read_at.new.buf fits) in
     record {
       size = omega (arith, ap length items, long, fits, room);
+      uncounted = λ name. c.in_ok-count.ensures.uncounted name ∙ c.loop-bytes.invariant.uncounted name;
       only = only_reads_on (g.F.Files.seen c.args.files.now) (g.F.Files.seen c.loop-bytes.files) (g.F.Files.seen c.read_at.new.self) c.loop-bytes.invariant.only c.in_ok-count.ensures.only;
       front = λ told.
           let before = (g.F.Files.seen c.args.files.now).held c.args.name.now in
