@@ -1,6 +1,7 @@
 -- The calls of one kind, and which of them are to fail.
-use Rattle.std.specs.Prelude.{◌≡◌, ◌≢◌, ℕ, ◌+◌, ◌-◌, ◌^◌, min, List, [], ◌∷◌, ◌++◌, take, Option, Some, None, Result, Ok, Err, nat_eq}
+use Rattle.std.specs.Prelude.{◌≡◌, ◌≢◌, ℕ, List, [], ◌∷◌, ◌++◌, take, Option, Some, None, Result, Ok, Err, nat_eq}
 use Rattle.std.specs.Map.{lookup}
+use Rattle.mp_outside.specs.Causes.{one_more}
 use Rattle.mp_outside.specs.declared.files.OutFault.{OutFault}
 use Rattle.mp_outside.specs.declared.files.OutFault.TheVariants.{Failed, NoMemory}
 
@@ -15,7 +16,7 @@ no_call = record { made = 0; failing = [] }
 
 -- the number of the next call, counted from 1 up to the end of its type
 abbrev pub next_number : CallPlan → ℕ
-next_number plan = min (plan.made + 1) (2 ^ 64 - 1)
+next_number plan = one_more plan.made
 
 -- where the next call is to fail, how many bytes it adds first: those of the first entry for it
 abbrev pub due : CallPlan → Option ℕ

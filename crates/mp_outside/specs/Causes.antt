@@ -1,11 +1,15 @@
 -- Counts of faults, and what they excuse.
-use Rattle.std.specs.Prelude.{◌≡◌, ℕ, ◌+◌, ◌-◌, ◌^◌, ◌≤◌, min, List, Result, IsErrOf}
+use Rattle.std.specs.Prelude.{⊤, ◌≡◌, ℕ, ◌+◌, ◌-◌, ◌^◌, ◌≤◌, min, List, Result, Ok, Err, IsErrOf}
 use Rattle.mp_outside.specs.declared.files.OutFault.{OutFault}
-use Rattle.mp_outside.specs.declared.files.OutFault.TheVariants.{Failed}
+use Rattle.mp_outside.specs.declared.files.OutFault.TheVariants.{Failed, NoMemory}
+
+-- one more, up to the end of a count's type
+abbrev pub one_more : ℕ → ℕ
+one_more count = min (count + 1) (2 ^ 64 - 1)
 
 -- a count is greater than before, or stands at the end of its type
 abbrev pub Rose : ℕ → ℕ → Type 0
-Rose before now = min (before + 1) (2 ^ 64 - 1) ≤ now
+Rose before now = one_more before ≤ now
 
 -- no count falls
 abbrev pub NoneFell : (List ℕ → ℕ) → (List ℕ → ℕ) → Type 0
@@ -15,6 +19,12 @@ NoneFell before now = (name : List ℕ) → before name ≤ now name
 abbrev pub SameCounts : (List ℕ → ℕ) → (List ℕ → ℕ) → Type 0
 SameCounts before now = (name : List ℕ) → now name ≡ before name
 
--- a failure comes only where the count rose
-abbrev pub FailsByFault : {T : Type 0} → Result T OutFault → ℕ → ℕ → Type 0
-FailsByFault result before now = IsErrOf result Failed → Rose before now
+-- a call fails only for this cause; want of memory is no failure
+abbrev pub FailsOnlyIf : {T : Type 0} → Result T OutFault → Type 0 → Type 0
+FailsOnlyIf result Cause = IsErrOf result Failed → Cause
+
+-- what holds after a call that didn't fail
+abbrev pub UnlessFailed : {T : Type 0} → Result T OutFault → Type 0 → Type 0
+UnlessFailed (Ok _) Fact = Fact
+UnlessFailed (Err Failed) Fact = ⊤
+UnlessFailed (Err NoMemory) Fact = Fact

@@ -2,22 +2,30 @@
 ghost use Rattle.std.specs.Prelude.{◌≡◌, ◌≤◌, length, IfOk};
 
 use crate::files::{Failed, Files, OutFault};
-use std::fs::{File, OpenOptions};
-use std::io;
+use std::fs::{File, Metadata, OpenOptions};
 use std::io::{ErrorKind, Write};
-use std::os::unix::fs::FileExt;
+use std::os::unix::fs::{FileExt, MetadataExt};
+use std::{fs, io};
 
 // A device that anyone may open.
 const NULL_DEVICE: &str = "/dev/null";
 
 /// The files of the host. It tells no contents. One count of reads and one of writes serve all
 /// names, and each rises at each error of its kind.
+///
+/// A pipe, a device or a folder is no file, and a call under its name fails at once.
+///
+/// `create` keeps its file open and locked, until the next `create` or the end of the program. It
+/// fails where another program has the file locked so, and changes nothing then. A piece is added
+/// to the file that was created last, and to no other: `append` fails where another file, or none,
+/// has the name by then.
 #[derive(Drop)]
 pub struct HostFiles {
     rt: HostRuntime,
     failed_reads: u64,
     failed_writes: u64,
     last_read: Option<OpenedFile>,
+    created: Option<File>,
     standing_in: [Option<File>; 3],
 }
 
@@ -47,6 +55,7 @@ impl HostFiles {
             failed_reads: 0,
             failed_writes: 0,
             last_read: None,
+            created: None,
             standing_in: [stand_in(&rt), stand_in(&rt), stand_in(&rt)],
         }
     }
@@ -62,7 +71,7 @@ impl HostFiles {
                 return read_from(&opened.file, at, buf);
             }
         }
-        let file = File::open(&self.rt, name)?;
+        let file = open_file(&self.rt, OpenOptions::new().read(true), name)?;
         let count = read_from(&file, at, buf)?;
         if let Ok(name) = String::from_str(self.rt.alloc(), name) {
             self.last_read = Some(OpenedFile { name, file });
@@ -74,6 +83,17 @@ impl HostFiles {
 // Takes the lowest free descriptor.
 fn stand_in(rt: &HostRuntime) -> Option<File> {
     File::open(rt, NULL_DEVICE).ok()
+}
+
+// Opens a file and nothing else. What the name stands for is looked at first, since opening a pipe
+// waits for its other end.
+fn open_file(rt: &HostRuntime, how: &OpenOptions, name: &str) -> io::Result<File> {
+    if let Ok(found) = fs::metadata(rt, name) {
+        if !found.is_file() {
+            return Err(io::Error::from(ErrorKind::InvalidInput));
+        }
+    }
+    how.open(rt, name)
 }
 
 // Reads at a place, once more wherever a signal came between.
@@ -89,29 +109,31 @@ fn read_from(file: &File, at: u64, buf: &mut [u8]) -> io::Result<usize>
     Err(io::Error::from(ErrorKind::Interrupted))
 }
 
-// Makes a file empty, and makes it where there is none.
-fn empty_file(rt: &HostRuntime, name: &str) -> io::Result<()> {
-    File::create(rt, name)?;
-    Ok(())
+// Makes a file empty, and makes it where there is none. It is locked before it is emptied, so a
+// file that another program writes stays as it is.
+fn create_file(rt: &HostRuntime, name: &str) -> io::Result<File> {
+    let file = open_file(rt, OpenOptions::new().append(true).create(true), name)?;
+    file.try_lock()?;
+    file.set_len(0)?;
+    Ok(file)
 }
 
-// Adds a piece to a file that is there. It isn't made anew where it was removed meanwhile.
-fn add_to_file(rt: &HostRuntime, name: &str, piece: &[u8]) -> io::Result<()> {
-    let mut file = OpenOptions::new().append(true).open(rt, name)?;
+// Adds a piece to a file that still has this name.
+fn add_to_file(rt: &HostRuntime, name: &str, file: &mut File, piece: &[u8]) -> io::Result<()> {
+    if !is_same_file(&fs::metadata(rt, name)?, &file.metadata()?) {
+        return Err(io::Error::from(ErrorKind::NotFound));
+    }
     file.write_all(piece)
 }
 
+fn is_same_file(a: &Metadata, b: &Metadata) -> bool {
+    a.dev() == b.dev() && a.ino() == b.ino()
+}
+
 impl Files for HostFiles {
-    ghost use Rattle.std.specs.Prelude.{false, None};
-    ghost use Rattle.mp_outside.specs.Host.{read_count, write_count};
+    ghost use Rattle.mp_outside.specs.Host.{files_seen};
 
-    ghost tells = { λ _. false };
-
-    ghost held = { λ _ _. None };
-
-    ghost reads = { read_count };
-
-    ghost writes = { write_count };
+    ghost seen = { files_seen };
 
     fn read_at(&mut self, name: &str, at: u64, buf: &mut [u8]) -> Result<usize, Failed> {
         match self.read_some(name, at, buf) {
@@ -125,8 +147,13 @@ impl Files for HostFiles {
 
     fn create(&mut self, name: &str) -> Result<(), OutFault> {
         self.last_read = None;
-        match empty_file(&self.rt, name) {
-            Ok(()) => Ok(()),
+        // The file that was created before is unlocked, also where it is the same.
+        self.created = None;
+        match create_file(&self.rt, name) {
+            Ok(file) => {
+                self.created = Some(file);
+                Ok(())
+            }
             Err(_) => {
                 self.failed_writes = self.failed_writes.saturating_add(1);
                 Err(OutFault::Failed)
@@ -136,12 +163,14 @@ impl Files for HostFiles {
 
     fn append(&mut self, name: &str, piece: &[u8]) -> Result<(), OutFault> {
         self.last_read = None;
-        match add_to_file(&self.rt, name, piece) {
-            Ok(()) => Ok(()),
-            Err(_) => {
-                self.failed_writes = self.failed_writes.saturating_add(1);
-                Err(OutFault::Failed)
-            }
+        let added = match &mut self.created {
+            Some(file) => add_to_file(&self.rt, name, file, piece),
+            None => Err(io::Error::from(ErrorKind::NotFound)),
+        };
+        if added.is_err() {
+            self.failed_writes = self.failed_writes.saturating_add(1);
+            return Err(OutFault::Failed);
         }
+        Ok(())
     }
 }
