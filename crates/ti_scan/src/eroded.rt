@@ -55,7 +55,7 @@ pub fn count_positions(image: &Grid, template: &Template) -> u32
     ensures count { result ≡ length (positions_of image.now template.now.vectors) }
     ensures few { result ≤ 2 ^ 20 }
 {
-    let _shape = image.shape();
+    let _ = image.shape();
     let ground = ground_of(image, template.vectors());
     let cells = ground.span.cells;
     let mut count = 0;
@@ -82,7 +82,7 @@ impl<'a> Eroded<'a> {
         requires below { All (IsBelow cats) image.now.cells }
         ensures { IfOk result (λ e. e ≡ record { image = image.now; template = template.now.vectors; cats = cats }) }
     {
-        let _shape = image.shape();
+        let _ = image.shape();
         let ground = ground_of(image, template.vectors());
         let cells = ground.span.cells;
         let mut positions = Vec::new(alloc);
@@ -141,7 +141,7 @@ impl<'a> Eroded<'a> {
         requires { IsEvent (length self.now.template) event.now }
         ensures { result ≡ counts_of self.now event.now }
     {
-        let _source = self.positions();
+        let _ = self.positions();
         let centres = self.centres.as_slice();
         let span = Span {
             first: self.first,
