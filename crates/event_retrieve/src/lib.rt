@@ -6,10 +6,11 @@ mod drawing;
 mod known;
 mod plan;
 mod retrieval;
+mod shared;
 #[cfg(test)]
 mod tests;
 
-pub use drawing::draw;
+pub use drawing::{draw, pick_with};
 pub use known::{event_on, known_event};
 pub use plan::{LevelPlan, PlanError};
 pub use retrieval::{Retained, retain};

@@ -3,9 +3,9 @@ ghost use Rattle.std.specs.Prelude.{◌≡◌, ◌<◌, ◌≤◌, length, slice
 ghost use Rattle.mp_base.specs.Grid.{cat_of, field};
 ghost use Rattle.ti_scan.specs.Event.{StandsFor};
 ghost use Rattle.event_retrieve.specs.Plan.{grid_at, cats_in, cell_of};
-ghost use Rattle.event_retrieve.specs.Sequential.{sequential, entry_after};
+ghost use Rattle.event_retrieve.specs.Sequential.{draw_word, sequential, entry_after};
 
-use event_retrieve::{LevelPlan, draw, event_on, retain};
+use event_retrieve::{LevelPlan, event_on, pick_with, retain};
 use mp_base::{Counts, Entry, Grid, NoMemory};
 use std::alloc::Global;
 use ti_scan::CountStore;
@@ -24,16 +24,18 @@ pub fn run_level<S: CountStore>(
     let cats = plan.eroded().cats();
     let mut now = plan.start().copy(alloc)?;
     let mut known = plan.start_counts();
+    let mut words = plan.draw_words();
     let mut log = Vec::with_capacity(alloc, plan.length() as usize)?;
     for i in 0..plan.length() {
-        let entry = next_entry(plan, store, log.as_slice(), &now, &known, i);
+        let word = words.next_word();
+        let entry = next_entry(plan, store, log.as_slice(), &now, &known, i, word);
         commit(&mut now, &mut known, &entry, cats);
         log.push(entry)?;
     }
     Ok(log)
 }
 
-// The entry of a path node, by the entries before it and by the grid that they make.
+// The entry of a path node, by the entries before it, by the grid that they make and by its word.
 fn next_entry<S: CountStore>(
     plan: &LevelPlan<'_>,
     store: &S,
@@ -41,11 +43,13 @@ fn next_entry<S: CountStore>(
     now: &Grid,
     known: &Counts,
     index: u32,
+    word: u32,
 ) -> Entry
     requires store { StandsFor S.gives S.reaches store.now plan.now.source }
     requires index { index < length plan.now.path }
     requires now { now.now ≡ grid_at plan.now log.now index }
     requires known { known.now ≡ cats_in plan.now.source.cats now.now.cells }
+    requires word { word ≡ draw_word plan.now index }
     ensures entry { result ≡ entry_after plan.now log.now index }
     ensures cell { result.cell ≡ cell_of plan.now index }
     ensures cat { result.cat < plan.now.source.cats }
@@ -53,7 +57,7 @@ fn next_entry<S: CountStore>(
     let cell = plan.cell_of(index);
     let vectors = plan.eroded().template().vectors();
     let kept = retain(plan, &event_on(now, vectors, cell), store);
-    let cat = draw(plan, index, &kept.counts, known);
+    let cat = pick_with(plan, word, &kept.counts, known);
     Entry { cell, cat }
 }
 

@@ -1,12 +1,17 @@
-use Rattle.std.proofs.Common.{arith, ◌≡◌, ◌<◌, ◌+◌, ◌∙◌, ◌++◌, ◌∷◌, [], sym, ap, length, Some, set}
+use Rattle.std.proofs.Common.{arith, ◌≡◌, ◌<◌, ℕ, ◌+◌, ◌∙◌, ◌++◌, ◌∷◌, [], sym, ap, length, Some, set}
 use Rattle.mp_base.specs.Grid.{field, Field}
-use Rattle.event_retrieve.specs.Plan.{cats_in, grid_at}
+use Rattle.path_stream.specs.Words.{Place}
+use Rattle.event_retrieve.specs.Plan.{Plan, cats_in, grid_at}
 use Rattle.event_retrieve.specs.Sequential.{log_of, entry_after}
 use Rattle.event_retrieve.proofs.Logs.{log_of_more, length-log_of}
 use Rattle.seq_engine.proofs.LogLemmas.{grid_at-push, unknown_at_turn, length-grid_at}
 use Rattle.mp_base.specs.declared.cell.Entry.{Entry}
 use Rattle.std.proofs.lemmas.List.Elements.{All-push}
 use Rattle.seq_engine.proofs.level.run_level.Goals as goal
+
+-- a place in the words of a plan
+abbrev place_of : Plan → ℕ → Place
+place_of p n = record { seed = p.seed; number = p.stream; place = n }
 
 pub loop-i-init : goal.loop-i-init
 unfolding log_of
@@ -16,6 +21,7 @@ loop-i-init g c =
       log = c.in_ok-log.ensures.items;
       now = start;
       cats = rw c.in_ok-log.ensures.items (λ k d in_list. absurd (omega arith));
+      words = c.draw_words-words.ensures ∙ ap (place_of c.args.plan.now) (omega arith);
       known = c.start_counts-known.ensures ∙ ap (λ (g : Field). cats_in c.args.plan.now.source.cats g.cells) (sym start);
     }
 
@@ -47,5 +53,6 @@ loop-i-preserved g c =
           c.commit.ensures.now ∙ ap (λ g. field g.sides (set g.cells e.cell (Some e.cat))) c.loop-i.invariant.now
           ∙ sym (grid_at-push p log e i (ap length c.loop-i.invariant.log ∙ length-log_of p i)) ∙ ap (λ l. grid_at p l (i + 1)) (sym items);
       cats = rw items (All-push (λ (x : Entry). x.cat < p.source.cats) log e c.loop-i.invariant.cats c.next_entry-entry.ensures.cat);
+      words = c.next_word-word.ensures.place ∙ ap (λ (q : Place). record q { place = q.place + 1 }) c.loop-i.invariant.words ∙ ap (place_of p) (omega arith);
       known = c.commit.ensures.known ∙ ap (λ n. cats_in n c.commit.new.now.cells) (c.cats-cats.ensures ∙ ap (λ s. s.cats) c.eroded.ensures.source);
     }
