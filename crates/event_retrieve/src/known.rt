@@ -41,9 +41,9 @@ pub fn known_event(plan: &LevelPlan<'_>, index: u32, log: &[Entry]) -> Event
     event
 }
 
-// Adds the datum of a template vector, by the number of that vector counted from 0, where a category
-// was found there.
-fn push_found(event: &mut Event, number: usize, found: Option<Cat>)
+/// Adds the datum of a template vector, by the number of that vector counted from 0, where a category
+/// was found there.
+pub fn push_found(event: &mut Event, number: usize, found: Option<Cat>)
     requires after { next_position event.old ≤ number + 1 }
     requires last { number < 64 }
     ensures { event.new ≡ event.old ++ option_to_list (datum_at (number + 1) found) }
@@ -62,10 +62,8 @@ fn cat_near(plan: &LevelPlan<'_>, log: &[Entry], cell: CellId, v: Vector) -> Opt
     requires front { IsFront plan.now log.now }
     ensures { result ≡ cat_at (grid_at plan.now log.now (length log.now)) cell v }
 {
-    match plan.start().shape().step(cell, v) {
-        Some(other) => cat_after(plan, log, other),
-        None => None,
-    }
+    let other = plan.start().shape().step(cell, v)?;
+    cat_after(plan, log, other)
 }
 
 // The category of a cell once the log's entries are set.

@@ -2,6 +2,7 @@
 //! category that is drawn by it.
 #![tactic(auto)]
 
+mod around;
 mod drawing;
 mod known;
 mod plan;
@@ -10,6 +11,7 @@ mod shared;
 #[cfg(test)]
 mod tests;
 
+pub use around::Surroundings;
 pub use drawing::{draw, pick_with};
 pub use known::{event_on, known_event};
 pub use plan::{LevelPlan, PlanError};

@@ -44,10 +44,8 @@ pub fn cat_from(grid: &Grid, cell: CellId, v: Vector) -> Option<Cat>
     ensures value { result ≡ cat_at grid.now cell v }
     ensures below { IsBelow 8 result }
 {
-    match grid.shape().step(cell, v) {
-        Some(other) => grid.get(other),
-        None => None,
-    }
+    let other = grid.shape().step(cell, v)?;
+    grid.get(other)
 }
 
 /// How many eroded positions the image has. It takes no memory.
