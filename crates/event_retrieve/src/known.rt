@@ -1,8 +1,9 @@
 // The known template cells around a node.
-ghost use Rattle.std.specs.Prelude.{◌≡◌, ◌<◌, ◌≤◌, length};
+ghost use Rattle.std.specs.Prelude.{◌≡◌, ◌+◌, ◌<◌, ◌≤◌, ◌++◌, length, option_to_list};
 ghost use Rattle.mp_base.specs.Grid.{cells_of, cat_at, cat_of};
 ghost use Rattle.ti_scan.specs.Event.{IsEvent};
-ghost use Rattle.event_retrieve.specs.Plan.{IsFront, data_by, grid_at, known};
+ghost use Rattle.ti_scan.specs.Rising.{next_position};
+ghost use Rattle.event_retrieve.specs.Plan.{IsFront, data_by, datum_at, grid_at, known};
 
 use crate::plan::LevelPlan;
 use mp_base::{Cat, CellId, Entry, Grid, Vector};
@@ -17,12 +18,7 @@ pub fn event_on(grid: &Grid, vectors: &[Vector], cell: CellId) -> Event
 {
     let mut event = Event::empty();
     for (i, v) in vectors.iter().enumerate() {
-        if let Some(cat) = cat_from(grid, cell, *v) {
-            event.push(Datum {
-                position: i as u8 + 1,
-                cat,
-            });
-        }
+        push_found(&mut event, i, cat_from(grid, cell, *v));
     }
     event
 }
@@ -40,14 +36,24 @@ pub fn known_event(plan: &LevelPlan<'_>, index: u32, log: &[Entry]) -> Event
     let vectors = plan.eroded().template().vectors();
     let mut event = Event::empty();
     for (i, v) in vectors.iter().enumerate() {
-        if let Some(cat) = cat_near(plan, log, cell, *v) {
-            event.push(Datum {
-                position: i as u8 + 1,
-                cat,
-            });
-        }
+        push_found(&mut event, i, cat_near(plan, log, cell, *v));
     }
     event
+}
+
+/// Adds the datum of a template vector, by the number of that vector counted from 0, where a category
+/// was found there.
+pub fn push_found(event: &mut Event, number: usize, found: Option<Cat>)
+    requires after { next_position event.old ≤ number + 1 }
+    requires last { number < 64 }
+    ensures { event.new ≡ event.old ++ option_to_list (datum_at (number + 1) found) }
+{
+    if let Some(cat) = found {
+        event.push(Datum {
+            position: number as u8 + 1,
+            cat,
+        });
+    }
 }
 
 // The category at a vector from a cell once the log's entries are set.
@@ -56,10 +62,8 @@ fn cat_near(plan: &LevelPlan<'_>, log: &[Entry], cell: CellId, v: Vector) -> Opt
     requires front { IsFront plan.now log.now }
     ensures { result ≡ cat_at (grid_at plan.now log.now (length log.now)) cell v }
 {
-    match plan.start().shape().step(cell, v) {
-        Some(other) => cat_after(plan, log, other),
-        None => None,
-    }
+    let other = plan.start().shape().step(cell, v)?;
+    cat_after(plan, log, other)
 }
 
 // The category of a cell once the log's entries are set.

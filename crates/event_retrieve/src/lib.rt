@@ -2,14 +2,17 @@
 //! category that is drawn by it.
 #![tactic(auto)]
 
+mod around;
 mod drawing;
 mod known;
 mod plan;
 mod retrieval;
+mod shared;
 #[cfg(test)]
 mod tests;
 
-pub use drawing::draw;
+pub use around::Surroundings;
+pub use drawing::{draw, pick_with};
 pub use known::{event_on, known_event};
 pub use plan::{LevelPlan, PlanError};
 pub use retrieval::{Retained, retain};

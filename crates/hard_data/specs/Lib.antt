@@ -1,4 +1,6 @@
+-- The promise.
 pub mod Nearest
 pub mod Points
-pub mod Kept
 pub mod Start
+-- What its proofs need.
+pub mod Kept

@@ -1,2 +1,4 @@
+-- The promise.
 pub mod Levels
+-- What its proofs need.
 pub mod Rows

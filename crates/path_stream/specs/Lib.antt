@@ -1,3 +1,4 @@
+-- The promise.
 pub mod Words
 pub mod Path
 pub mod Ranks

@@ -42,7 +42,7 @@ fn count_of(nodes: &[CellId]) -> usize
     let count = nodes.len();
     if count > 0 {
         let last = &nodes[count - 1];
-        let _number = last.0 as usize;
+        let _ = last.0 as usize;
     }
     count
 }

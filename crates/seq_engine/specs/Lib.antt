@@ -1,5 +1,7 @@
+-- The promise.
 pub mod Setup
 pub mod Realisation
-pub mod Runs
 pub mod Errors
+pub mod Runs
+-- What its proofs need.
 pub mod Kept

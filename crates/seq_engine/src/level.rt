@@ -1,14 +1,14 @@
 // The sequential simulation of a level.
 ghost use Rattle.std.specs.Prelude.{◌≡◌, ◌<◌, ◌≤◌, length, slice_set, Some, None, IfOk, All};
 ghost use Rattle.mp_base.specs.Grid.{cat_of, field};
-ghost use Rattle.ti_scan.specs.Event.{StandsFor};
-ghost use Rattle.event_retrieve.specs.Plan.{grid_at, cats_in, cell_of};
-ghost use Rattle.event_retrieve.specs.Sequential.{sequential, entry_after};
+ghost use Rattle.ti_scan.specs.Event.{IsEvent, StandsFor};
+ghost use Rattle.event_retrieve.specs.Plan.{grid_at, cats_in, cell_of, known as known_of};
+ghost use Rattle.event_retrieve.specs.Sequential.{draw_word, sequential, entry_after};
 
-use event_retrieve::{LevelPlan, draw, event_on, retain};
+use event_retrieve::{LevelPlan, Surroundings, pick_with, retain};
 use mp_base::{Counts, Entry, Grid, NoMemory};
 use std::alloc::Global;
-use ti_scan::CountStore;
+use ti_scan::{CountStore, Event};
 
 /// Node after node of the path, the entry of each from the known nodes before it: the sequential
 /// simulation of a level (Strebelle 2002).
@@ -21,40 +21,52 @@ pub fn run_level<S: CountStore>(
     ensures log { IfOk result (λ log. log.items ≡ sequential plan.now) }
     ensures cats { IfOk result (λ log. All (λ e. e.cat < plan.now.source.cats) log.items) }
 {
-    let cats = plan.eroded().cats();
-    let mut now = plan.start().copy(alloc)?;
+    let eroded = plan.eroded();
+    let cats = eroded.cats();
+    let start = plan.start();
+    let around = Surroundings::new(alloc, start, eroded.template().vectors())?;
+    let mut now = start.copy(alloc)?;
     let mut known = plan.start_counts();
+    let mut words = plan.draw_words();
     let mut log = Vec::with_capacity(alloc, plan.length() as usize)?;
     for i in 0..plan.length() {
-        let entry = next_entry(plan, store, log.as_slice(), &now, &known, i);
+        let word = words.next_word();
+        let event = around.event_on(&now, plan.cell_of(i));
+        let entry = next_entry(plan, store, log.as_slice(), &event, &known, i, word);
         commit(&mut now, &mut known, &entry, cats);
         log.push(entry)?;
     }
     Ok(log)
 }
 
-// The entry of a path node, by the entries before it and by the grid that they make.
+// The entry of a path node, by its known event after the entries before it, by how many nodes have
+// each category by then, and by its word.
 fn next_entry<S: CountStore>(
     plan: &LevelPlan<'_>,
     store: &S,
     log: &[Entry],
-    now: &Grid,
+    event: &Event,
     known: &Counts,
     index: u32,
+    word: u32,
 ) -> Entry
     requires store { StandsFor S.gives S.reaches store.now plan.now.source }
     requires index { index < length plan.now.path }
-    requires now { now.now ≡ grid_at plan.now log.now index }
-    requires known { known.now ≡ cats_in plan.now.source.cats now.now.cells }
+    requires event { event.now ≡ known_of plan.now log.now index index }
+    requires rising { IsEvent (length plan.now.source.template) event.now }
+    requires known { known.now ≡ cats_in plan.now.source.cats (grid_at plan.now log.now index).cells }
+    requires word { word ≡ draw_word plan.now index }
     ensures entry { result ≡ entry_after plan.now log.now index }
     ensures cell { result.cell ≡ cell_of plan.now index }
     ensures cat { result.cat < plan.now.source.cats }
 {
-    let cell = plan.cell_of(index);
-    let vectors = plan.eroded().template().vectors();
-    let kept = retain(plan, &event_on(now, vectors, cell), store);
-    let cat = draw(plan, index, &kept.counts, known);
-    Entry { cell, cat }
+    let _ = plan.level();
+    let kept = retain(plan, event, store);
+    let cat = pick_with(plan, word, &kept.counts, known);
+    Entry {
+        cell: plan.cell_of(index),
+        cat,
+    }
 }
 
 // Sets a cell that was unknown, and counts its category.

@@ -8,7 +8,7 @@ use Rattle.std.proofs.Math.Nat.{le_of_mul-le-mul_left, one-le-mul}
 use Rattle.std.proofs.lemmas.List.{length-map, get_or-map}
 use Rattle.std.proofs.lemmas.List.Elements.{All-map, All-weaker}
 use Rattle.mp_base.specs.declared.cell.Vector.{Vector}
-use Rattle.template_order.specs.Template.{TemplateOf, IsTemplate, IsWithin, LeavesCell, reach_of, times, vector}
+use Rattle.template_order.specs.Template.{TemplateOf, IsTemplate, IsWithin, LeavesCell, longest_offset, times, vector}
 
 nat_abs-neg : (m : ℕ) → nat_abs (neg_ℤ (pos m)) ≡ m
 nat_abs-neg zero = refl
@@ -83,7 +83,7 @@ pub stretched_facts : (f : ℕ) (t : TemplateOf) → t.stretched ≡ false → 1
 stretched_facts f t whole some few facts = record {
   few = omega (arith, facts.few, length-map t.vectors (times f));
   near =
-      let near : All (IsWithin 64) t.vectors = subst (λ b. All (IsWithin (reach_of b)) t.vectors) whole facts.near in
+      let near : All (IsWithin 64) t.vectors = subst (λ b. All (IsWithin (longest_offset b)) t.vectors) whole facts.near in
       All-map (IsWithin (64 * 128)) (times f) t.vectors (All-weaker (IsWithin 64) (λ v. IsWithin (64 * 128) (times f v)) (λ v. further f v few) t.vectors near);
   leave = All-map LeavesCell (times f) t.vectors (All-weaker LeavesCell (λ v. LeavesCell (times f v)) (λ v. still_leaves f v some) t.vectors facts.leave);
   apart = λ i j d before within e.

@@ -1,3 +1,5 @@
+-- The promise.
 pub mod Template
+pub mod Radii
+-- What its proofs need.
 pub mod Keys
-pub mod Reach

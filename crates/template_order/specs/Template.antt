@@ -4,7 +4,7 @@ use Rattle.std.specs.List.{AllPairs, range_with_len}
 use Rattle.std.specs.Ordering.{int_eq}
 use Rattle.mp_base.specs.declared.cell.Vector.{Vector}
 
--- how far a template may reach along x, y and z
+-- the half axes of the ellipsoid along x, y and z
 pub record Radii : Type 0 where
   pub x : ℕ
   pub y : ℕ
@@ -27,7 +27,7 @@ offsets r = map (offset r) (range_with_len 0 (2 * r + 1))
 abbrev pub vector : ℤ → ℤ → ℤ → Vector
 vector x y z = record { dx = x; dy = y; dz = z }
 
--- the vectors that reach no further than the radii on each axis
+-- the vectors whose offsets are no longer than the radii
 abbrev pub box : Radii → List Vector
 box r = flat_map (λ z. flat_map (λ y. map (λ x. vector x y z) (offsets r.x)) (offsets r.y)) (offsets r.z)
 
@@ -91,13 +91,13 @@ pub record IsWithin (limit : ℕ) (v : Vector) : Type 0 where
 abbrev pub LeavesCell : Vector → Type 0
 LeavesCell v = 1 ≤ nat_abs v.dx + nat_abs v.dy + nat_abs v.dz
 
--- the longest offset: a template is stretched by 128 at most
-abbrev pub reach_of : Bool → ℕ
-reach_of stretched = if stretched then 64 * 128 else 64
+-- how long an offset may be: a template is stretched by 128 at most
+abbrev pub longest_offset : Bool → ℕ
+longest_offset stretched = if stretched then 64 * 128 else 64
 
 -- what each template of the program keeps
 pub record IsTemplate (t : TemplateOf) : Type 0 where
   pub few : length t.vectors ≤ 64
-  pub near : All (IsWithin (reach_of t.stretched)) t.vectors
+  pub near : All (IsWithin (longest_offset t.stretched)) t.vectors
   pub leave : All LeavesCell t.vectors
   pub apart : AllPairs (λ v w. v ≢ w) t.vectors

@@ -2,7 +2,7 @@
 ghost use Rattle.std.specs.Prelude.{◌≡◌, ◌+◌, ◌*◌, ◌≤◌, ◌^◌, ◌++◌, ◌∷◌, [], All, IfOk, IsTrue, OnOk, false, length, nat_abs, true};
 ghost use Rattle.template_order.specs.Template.{IsSmall, IsTemplate, IsWithin, distance as distance_of, is_near_enough, offset as offset_of, template_of, vector};
 ghost use Rattle.template_order.specs.Keys.{AreLeast, IsShortOrder, is_up_to, keys_of, plane, planes, row, vector_of as vector_of_key};
-ghost use Rattle.template_order.specs.Reach.{radii_of};
+ghost use Rattle.template_order.specs.Radii.{radii_of};
 
 use mp_base::{NoMemory, Vector};
 use std::alloc::Global;
@@ -10,9 +10,9 @@ use std::alloc::Global;
 /// A vector's distance, z, y and x.
 pub type Key = (u64, i32, i32, i32);
 
-/// How far a template may reach along x, y and z.
+/// The half axes of a template along x, y and z.
 #[derive(Clone, Copy)]
-pub struct Reach {
+pub struct Radii {
     pub x: u32,
     pub y: u32,
     pub z: u32,
@@ -31,27 +31,27 @@ fn square(offset: u32, p: u64, q: u64) -> u64
     side * side
 }
 
-fn distance(reach: Reach, v: Vector) -> u64
-    requires small { IsSmall (radii_of reach) }
+fn distance(radii: Radii, v: Vector) -> u64
+    requires small { IsSmall (radii_of radii) }
     requires near { IsWithin 64 v }
-    ensures { result ≡ distance_of (radii_of reach) v }
+    ensures { result ≡ distance_of (radii_of radii) v }
 {
     let (a, b, c) = (
-        u64::from(reach.x.max(1)),
-        u64::from(reach.y.max(1)),
-        u64::from(reach.z.max(1)),
+        u64::from(radii.x.max(1)),
+        u64::from(radii.y.max(1)),
+        u64::from(radii.z.max(1)),
     );
     square(v.dx.unsigned_abs(), b, c)
         + square(v.dy.unsigned_abs(), a, c)
         + square(v.dz.unsigned_abs(), a, b)
 }
 
-fn is_candidate(reach: Reach, distance: u64) -> bool
-    requires small { IsSmall (radii_of reach) }
-    ensures { result ≡ is_near_enough (radii_of reach) distance }
+fn is_candidate(radii: Radii, distance: u64) -> bool
+    requires small { IsSmall (radii_of radii) }
+    ensures { result ≡ is_near_enough (radii_of radii) distance }
 {
-    let (b, c) = (u64::from(reach.y.max(1)), u64::from(reach.z.max(1)));
-    let most = square(reach.x.max(1), b, c);
+    let (b, c) = (u64::from(radii.y.max(1)), u64::from(radii.z.max(1)));
+    let most = square(radii.x.max(1), b, c);
     distance > 0 && distance <= most
 }
 
@@ -65,18 +65,18 @@ fn offset(radius: u32, k: u32) -> i32
 }
 
 // Vector number k, counted from 0, of row j of plane i of the box.
-fn vector_at(reach: Reach, i: u32, j: u32, k: u32) -> Vector
-    requires small { IsSmall (radii_of reach) }
-    requires i { i ≤ 2 * reach.z }
-    requires j { j ≤ 2 * reach.y }
-    requires k { k ≤ 2 * reach.x }
-    ensures value { result ≡ vector (offset_of reach.x k) (offset_of reach.y j) (offset_of reach.z i) }
+fn vector_at(radii: Radii, i: u32, j: u32, k: u32) -> Vector
+    requires small { IsSmall (radii_of radii) }
+    requires i { i ≤ 2 * radii.z }
+    requires j { j ≤ 2 * radii.y }
+    requires k { k ≤ 2 * radii.x }
+    ensures value { result ≡ vector (offset_of radii.x k) (offset_of radii.y j) (offset_of radii.z i) }
     ensures near { IsWithin 64 result }
 {
     Vector {
-        dx: offset(reach.x, k),
-        dy: offset(reach.y, j),
-        dz: offset(reach.z, i),
+        dx: offset(radii.x, k),
+        dy: offset(radii.y, j),
+        dz: offset(radii.z, i),
     }
 }
 
@@ -113,14 +113,14 @@ fn offer(keys: &mut Vec<Key>, count: usize, key: Key) -> Result<(), NoMemory>
 }
 
 // Takes the key of a vector of the box, if it is a candidate.
-fn offer_vector(keys: &mut Vec<Key>, count: usize, reach: Reach, v: Vector) -> Result<(), NoMemory>
+fn offer_vector(keys: &mut Vec<Key>, count: usize, radii: Radii, v: Vector) -> Result<(), NoMemory>
     requires order { IsShortOrder count keys.old.items }
-    requires small { IsSmall (radii_of reach) }
+    requires small { IsSmall (radii_of radii) }
     requires near { IsWithin 64 v }
-    ensures { OnOk result (AreLeast count (keys.old.items ++ keys_of (radii_of reach) (v ∷ [])) keys.new.items) }
+    ensures { OnOk result (AreLeast count (keys.old.items ++ keys_of (radii_of radii) (v ∷ [])) keys.new.items) }
 {
-    let d = distance(reach, v);
-    if is_candidate(reach, d) {
+    let d = distance(radii, v);
+    if is_candidate(radii, d) {
         offer(keys, count, key(d, v))?;
     }
     Ok(())
@@ -129,41 +129,41 @@ fn offer_vector(keys: &mut Vec<Key>, count: usize, reach: Reach, v: Vector) -> R
 fn offer_row(
     keys: &mut Vec<Key>,
     count: usize,
-    reach: Reach,
+    radii: Radii,
     i: u32,
     j: u32,
 ) -> Result<(), NoMemory>
     requires order { IsShortOrder count keys.old.items }
-    requires small { IsSmall (radii_of reach) }
-    requires i { i ≤ 2 * reach.z }
-    requires j { j ≤ 2 * reach.y }
-    ensures { OnOk result (AreLeast count (keys.old.items ++ keys_of (radii_of reach) (row (radii_of reach) i j (2 * reach.x + 1))) keys.new.items) }
+    requires small { IsSmall (radii_of radii) }
+    requires i { i ≤ 2 * radii.z }
+    requires j { j ≤ 2 * radii.y }
+    ensures { OnOk result (AreLeast count (keys.old.items ++ keys_of (radii_of radii) (row (radii_of radii) i j (2 * radii.x + 1))) keys.new.items) }
 {
-    for k in 0..2 * reach.x + 1 {
-        offer_vector(keys, count, reach, vector_at(reach, i, j, k))?;
+    for k in 0..2 * radii.x + 1 {
+        offer_vector(keys, count, radii, vector_at(radii, i, j, k))?;
     }
     Ok(())
 }
 
-fn offer_plane(keys: &mut Vec<Key>, count: usize, reach: Reach, i: u32) -> Result<(), NoMemory>
+fn offer_plane(keys: &mut Vec<Key>, count: usize, radii: Radii, i: u32) -> Result<(), NoMemory>
     requires order { IsShortOrder count keys.old.items }
-    requires small { IsSmall (radii_of reach) }
-    requires i { i ≤ 2 * reach.z }
-    ensures { OnOk result (AreLeast count (keys.old.items ++ keys_of (radii_of reach) (plane (radii_of reach) i (2 * reach.y + 1))) keys.new.items) }
+    requires small { IsSmall (radii_of radii) }
+    requires i { i ≤ 2 * radii.z }
+    ensures { OnOk result (AreLeast count (keys.old.items ++ keys_of (radii_of radii) (plane (radii_of radii) i (2 * radii.y + 1))) keys.new.items) }
 {
-    for j in 0..2 * reach.y + 1 {
-        offer_row(keys, count, reach, i, j)?;
+    for j in 0..2 * radii.y + 1 {
+        offer_row(keys, count, radii, i, j)?;
     }
     Ok(())
 }
 
-fn offer_box(keys: &mut Vec<Key>, count: usize, reach: Reach) -> Result<(), NoMemory>
+fn offer_box(keys: &mut Vec<Key>, count: usize, radii: Radii) -> Result<(), NoMemory>
     requires order { IsShortOrder count keys.old.items }
-    requires small { IsSmall (radii_of reach) }
-    ensures { OnOk result (AreLeast count (keys.old.items ++ keys_of (radii_of reach) (planes (radii_of reach) (2 * reach.z + 1))) keys.new.items) }
+    requires small { IsSmall (radii_of radii) }
+    ensures { OnOk result (AreLeast count (keys.old.items ++ keys_of (radii_of radii) (planes (radii_of radii) (2 * radii.z + 1))) keys.new.items) }
 {
-    for i in 0..2 * reach.z + 1 {
-        offer_plane(keys, count, reach, i)?;
+    for i in 0..2 * radii.z + 1 {
+        offer_plane(keys, count, radii, i)?;
     }
     Ok(())
 }
@@ -180,14 +180,14 @@ fn vector_of(key: &Key) -> Vector
 
 /// The nearest candidates in order, at most so many. Only that many keys are kept while the box is
 /// gone through, so that large radii take no more memory.
-pub fn nearest(alloc: Global, reach: Reach, count: usize) -> Result<Vec<Vector>, NoMemory>
-    requires small { IsSmall (radii_of reach) }
+pub fn nearest(alloc: Global, radii: Radii, count: usize) -> Result<Vec<Vector>, NoMemory>
+    requires small { IsSmall (radii_of radii) }
     requires count { count ≤ 64 }
-    ensures vectors { IfOk result (λ list. list.items ≡ template_of (radii_of reach) count) }
+    ensures vectors { IfOk result (λ list. list.items ≡ template_of (radii_of radii) count) }
     ensures template { IfOk result (λ list. IsTemplate (record { vectors = list.items; stretched = false })) }
 {
     let mut keys = Vec::new(alloc);
-    offer_box(&mut keys, count, reach)?;
+    offer_box(&mut keys, count, radii)?;
     let mut list = Vec::with_capacity(alloc, count)?;
     for key in keys.as_slice() {
         list.push(vector_of(key))?;

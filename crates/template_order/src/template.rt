@@ -2,9 +2,9 @@
 ghost use Rattle.std.specs.Prelude.{◌≡◌, ◌≢◌, ◌<◌, ◌≤◌, All, IfNone, IfSome, length};
 ghost use Rattle.std.specs.List.{HoldsAt};
 ghost use Rattle.template_order.specs.Template.{IsWithin, times};
-ghost use Rattle.template_order.specs.Reach.{radii_in, radii_of};
+ghost use Rattle.template_order.specs.Radii.{radii_in, radii_of};
 
-use crate::order::{Reach, nearest};
+use crate::order::{Radii, nearest};
 use mp_base::{NoMemory, Vector};
 use std::alloc::Global;
 use std::marker::Model;
@@ -26,10 +26,10 @@ impl Model for Template {
     ghost invariant = { λ t. IsTemplate (record { vectors = t.list.items; stretched = t.stretched }) };
 }
 
-fn reach_of(radii: [u8; 3]) -> Reach
+fn as_radii(radii: [u8; 3]) -> Radii
     ensures { radii_of result ≡ radii_in radii }
 {
-    Reach {
+    Radii {
         x: u32::from(radii[0]),
         y: u32::from(radii[1]),
         z: u32::from(radii[2]),
@@ -48,7 +48,7 @@ impl Template {
         requires count { (1 ≤ count) × (count ≤ 64) }
         ensures { IfOk result (λ t. t ≡ record { vectors = template_of (radii_in radii) count; stretched = false }) }
     {
-        let list = nearest(alloc, reach_of(radii), count as usize)?;
+        let list = nearest(alloc, as_radii(radii), count as usize)?;
         Ok(Template {
             list,
             stretched: false,

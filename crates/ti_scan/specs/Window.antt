@@ -1,5 +1,5 @@
 -- The part of an image around whose cells a template is inside.
-use Rattle.std.specs.Prelude.{◌≡◌, ℕ, ◌+◌, ◌<◌, ◌≤◌, ℤ, Bool, true, ◌&&◌, nat_le, nat_lt, is_some, List, length, map, slice_index, Option, None, if◌then◌else◌}
+use Rattle.std.specs.Prelude.{◌≡◌, ℕ, ◌+◌, ◌<◌, ◌≤◌, ℤ, Bool, true, ◌&&◌, nat_le, nat_lt, is_some, List, length, map, filter, slice_index, Option, None, if◌then◌else◌}
 use Rattle.std.specs.List.{list_all, range_with_len, count_by}
 use Rattle.mp_base.specs.declared.cell.Vector.{Vector}
 use Rattle.mp_base.specs.Grid.{Field, Sides, cells_of, cat_of, cell_at, category_of, cat_at, moved, x_of, y_of, z_of}
@@ -46,6 +46,13 @@ pub record IsSpan (inside : ℕ → Bool) (n first cells : ℕ) : Type 0 where
 -- the category of a cell that is an eroded position
 abbrev pub centre_in : Field → List Vector → ℕ → Option ℕ
 centre_in image template c = if is_eroded image template c then cat_of image.cells c else None
+
+-- of the n cells from here on: the eroded positions, and for each cell the category at its centre
+abbrev pub eroded_among : Field → List Vector → ℕ → ℕ → List ℕ
+eroded_among image template from n = filter (is_eroded image template) (range_with_len from n)
+
+abbrev pub centres_among : Field → List Vector → ℕ → ℕ → List (Option ℕ)
+centres_among image template from n = map (centre_in image template) (range_with_len from n)
 
 -- the bytes of a span of cells: an eroded position has its category, and no other cell has one
 pub record AreCentres (s : Source) (first : ℕ) (bytes : List ℕ) : Type 0 where

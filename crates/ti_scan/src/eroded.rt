@@ -44,10 +44,8 @@ pub fn cat_from(grid: &Grid, cell: CellId, v: Vector) -> Option<Cat>
     ensures value { result ≡ cat_at grid.now cell v }
     ensures below { IsBelow 8 result }
 {
-    match grid.shape().step(cell, v) {
-        Some(other) => grid.get(other),
-        None => None,
-    }
+    let other = grid.shape().step(cell, v)?;
+    grid.get(other)
 }
 
 /// How many eroded positions the image has. It takes no memory.
@@ -55,7 +53,7 @@ pub fn count_positions(image: &Grid, template: &Template) -> u32
     ensures count { result ≡ length (positions_of image.now template.now.vectors) }
     ensures few { result ≤ 2 ^ 20 }
 {
-    let _shape = image.shape();
+    let _ = image.shape();
     let ground = ground_of(image, template.vectors());
     let cells = ground.span.cells;
     let mut count = 0;
@@ -82,7 +80,7 @@ impl<'a> Eroded<'a> {
         requires below { All (IsBelow cats) image.now.cells }
         ensures { IfOk result (λ e. e ≡ record { image = image.now; template = template.now.vectors; cats = cats }) }
     {
-        let _shape = image.shape();
+        let _ = image.shape();
         let ground = ground_of(image, template.vectors());
         let cells = ground.span.cells;
         let mut positions = Vec::new(alloc);
@@ -141,7 +139,7 @@ impl<'a> Eroded<'a> {
         requires { IsEvent (length self.now.template) event.now }
         ensures { result ≡ counts_of self.now event.now }
     {
-        let _source = self.positions();
+        let _ = self.positions();
         let centres = self.centres.as_slice();
         let span = Span {
             first: self.first,

@@ -1,10 +1,10 @@
 // Erosion, a block of cells at a time.
-ghost use Rattle.std.specs.Prelude.{◌≡◌, ◌+◌, ◌<◌, ◌≤◌, ◌^◌, ◌&&◌, ◌++◌, OnOk, length, map, filter, count_by};
+ghost use Rattle.std.specs.Prelude.{◌≡◌, ◌+◌, ◌<◌, ◌≤◌, ◌^◌, ◌&&◌, ◌++◌, OnOk, length, map, count_by};
 ghost use Rattle.std.specs.List.{range_with_len};
 ghost use Rattle.mp_base.specs.Grid.{IsShape, category_of, cells_of};
 ghost use Rattle.ti_scan.specs.Eroded.{is_eroded};
 ghost use Rattle.ti_scan.specs.Marks.{Keeps};
-ghost use Rattle.ti_scan.specs.Window.{IsGround, KeepsEroded, centre_in, eroded_from, inside_from, is_inside};
+ghost use Rattle.ti_scan.specs.Window.{KeepsEroded, centres_among, eroded_among, eroded_from, inside_from, is_inside};
 
 use crate::ground::{Ground, bytes_at, own_bytes};
 use crate::margins::is_within;
@@ -16,7 +16,6 @@ pub const BLOCK: u32 = 4096;
 
 // Keeps the marks of the cells around which all is known, where the template is inside.
 fn keep_surrounded(ground: &Ground<'_>, start: u32, marks: &mut [bool])
-    requires ground { IsGround ground.now.image.now.sides ground.now.vectors.now ground.now.margins ground.now.span.first ground.now.span.cells }
     requires some { 1 ≤ length marks.old }
     requires fits { start + length marks.old ≤ ground.now.span.cells }
     ensures { KeepsEroded ground.now.image.now ground.now.vectors.now ground.now.vectors.now (ground.now.span.first + start) marks.old marks.new }
@@ -30,7 +29,6 @@ fn keep_surrounded(ground: &Ground<'_>, start: u32, marks: &mut [bool])
 
 // Whether a marked cell stays marked.
 fn stays(ground: &Ground<'_>, shape: Shape, mark: bool, cell: CellId) -> bool
-    requires ground { IsGround ground.now.image.now.sides ground.now.vectors.now ground.now.margins ground.now.span.first ground.now.span.cells }
     requires shape { shape ≡ ground.now.image.now.sides }
     requires sides { IsShape ground.now.image.now.sides }
     requires cell { cell < cells_of ground.now.image.now.sides }
@@ -41,8 +39,7 @@ fn stays(ground: &Ground<'_>, shape: Shape, mark: bool, cell: CellId) -> bool
 
 // Keeps the marks of the cells around which the template is inside.
 fn keep_within(ground: &Ground<'_>, start: u32, marks: &mut [bool])
-    requires ground { IsGround ground.now.image.now.sides ground.now.vectors.now ground.now.margins ground.now.span.first ground.now.span.cells }
-    requires fits { start + length marks.old ≤ ground.now.span.cells }
+    requires { start + length marks.old ≤ ground.now.span.cells }
     ensures { Keeps (inside_from ground.now.image.now.sides ground.now.vectors.now (ground.now.span.first + start)) marks.old marks.new }
 {
     let shape = ground.image.shape();
@@ -55,7 +52,6 @@ fn keep_within(ground: &Ground<'_>, start: u32, marks: &mut [bool])
 
 /// Keeps the marks of the eroded positions, of the cells of the span from number `start` of it on.
 pub fn keep_eroded(ground: &Ground<'_>, start: u32, marks: &mut [bool])
-    requires ground { IsGround ground.now.image.now.sides ground.now.vectors.now ground.now.margins ground.now.span.first ground.now.span.cells }
     requires some { 1 ≤ length marks.old }
     requires fits { start + length marks.old ≤ ground.now.span.cells }
     ensures { Keeps (eroded_from ground.now.image.now ground.now.vectors.now (ground.now.span.first + start)) marks.old marks.new }
@@ -66,7 +62,6 @@ pub fn keep_eroded(ground: &Ground<'_>, start: u32, marks: &mut [bool])
 
 /// How many of the cells of a block are eroded positions.
 pub fn count_block(ground: &Ground<'_>, start: u32, len: u32) -> u32
-    requires ground { IsGround ground.now.image.now.sides ground.now.vectors.now ground.now.margins ground.now.span.first ground.now.span.cells }
     requires some { 1 ≤ len }
     requires few { len ≤ 4096 }
     requires fits { start + len ≤ ground.now.span.cells }
@@ -86,14 +81,15 @@ pub fn push_block(
     positions: &mut Vec<CellId>,
     centres: &mut Vec<u8>,
 ) -> Result<(), NoMemory>
-    requires ground { IsGround ground.now.image.now.sides ground.now.vectors.now ground.now.margins ground.now.span.first ground.now.span.cells }
     requires some { 1 ≤ len }
     requires few { len ≤ 4096 }
     requires fits { start + len ≤ ground.now.span.cells }
-    ensures positions { OnOk result (positions.new.items ≡ positions.old.items ++ filter (is_eroded ground.now.image.now ground.now.vectors.now) (range_with_len (ground.now.span.first + start) len)) }
-    ensures centres { OnOk result (map category_of centres.new.items ≡ map category_of centres.old.items ++ map (centre_in ground.now.image.now ground.now.vectors.now) (range_with_len (ground.now.span.first + start) len)) }
+    ensures positions { let found = eroded_among ground.now.image.now ground.now.vectors.now (ground.now.span.first + start) len in
+        OnOk result (positions.new.items ≡ positions.old.items ++ found) }
+    ensures centres { let found = centres_among ground.now.image.now ground.now.vectors.now (ground.now.span.first + start) len in
+        OnOk result (map category_of centres.new.items ≡ map category_of centres.old.items ++ found) }
 {
-    let _shape = ground.image.shape();
+    let _ = ground.image.shape();
     let mut block = [true; BLOCK as usize];
     let marks = &mut block[..len as usize];
     keep_eroded(ground, start, marks);

@@ -13,13 +13,13 @@ pub struct Ground<'a> {
     pub vectors: &'a [Vector],
     pub margins: Margins,
     pub span: Span,
+    ghost inside: { IsGround image.now.sides vectors.now margins span.first span.cells },
 }
 
 /// The ground of a template on an image.
 pub fn ground_of<'a>(image: &'a Grid, vectors: &'a [Vector]) -> Ground<'a>
     ensures image { result.image.now ≡ image.now }
     ensures vectors { result.vectors.now ≡ vectors.now }
-    ensures ground { IsGround image.now.sides vectors.now result.margins result.span.first result.span.cells }
 {
     let margins = margins_of(vectors);
     Ground {
@@ -51,8 +51,7 @@ pub fn bytes_at<'a>(image: &'a Grid, span: Span, v: Vector, start: u32, len: usi
 
 /// The bytes of `len` cells of the span, from number `start` of it on.
 pub fn own_bytes<'a>(ground: &Ground<'a>, start: u32, len: usize) -> &'a [u8]
-    requires within { ground.now.span.first + ground.now.span.cells ≤ cells_of ground.now.image.now.sides }
-    requires fits { start + len ≤ ground.now.span.cells }
+    requires { start + len ≤ ground.now.span.cells }
     ensures { AreOwn ground.now.image.now (ground.now.span.first + start) len result.now }
 {
     let bytes = ground.image.as_bytes();

@@ -16,4 +16,6 @@ mod tests;
 
 pub use eroded::{Eroded, cat_from, count_positions};
 pub use event::{Datum, Event};
+pub use ground::{Ground, ground_of};
+pub use margins::{Margin, Margins, Span, is_within};
 pub use store::{CountStore, LongestPrefix};

@@ -1,20 +1,22 @@
-// What threads may share.
-use crate::eroded::Eroded;
+// What threads may share: each call of `share` is proved, and none is made when the program runs.
 use crate::event::{Datum, Event};
-use crate::store::LongestPrefix;
+use crate::store::{CountStore, LongestPrefix};
 use mp_base::{Counts, Grid};
 use template_order::Template;
 
 fn share<T: Sync>(_value: &T) {}
 
-/// Each of these may be shared between threads.
-pub fn all_shared(
+// Any store may be shared, an `Eroded` among them.
+fn store_shared<S: CountStore>(store: &S) {
+    share(store);
+}
+
+fn all_shared(
     grid: &Grid,
     template: &Template,
     datum: &Datum,
     event: &Event,
     counts: &Counts,
-    eroded: &Eroded<'_>,
     longest: &LongestPrefix,
 ) {
     share(grid);
@@ -22,6 +24,5 @@ pub fn all_shared(
     share(datum);
     share(event);
     share(counts);
-    share(eroded);
     share(longest);
 }

@@ -18,8 +18,9 @@ pub struct LongestPrefix {
     pub counts: Counts,
 }
 
-/// Answers how often each category is at the centre of a data event. It takes no memory.
-pub trait CountStore {
+/// Answers how often each category is at the centre of a data event. It takes no memory, and
+/// threads may share it.
+pub trait CountStore: Sync {
     /// What is answered for an event.
     ghost gives: { Self → List Datum → List ℕ };
 

@@ -1,4 +1,4 @@
-use Rattle.std.proofs.Common.{◌≡◌, ◌<◌}
+use Rattle.std.proofs.Common.{◌≡◌, ◌<◌, ◌+◌, length}
 use Rattle.std.specs.List.{All}
 use Rattle.event_retrieve.specs.Plan.{grid_at, cats_in}
 use Rattle.event_retrieve.specs.Sequential.{log_of}
@@ -9,5 +9,6 @@ invariant-loop-i g l = record {
   log : l.log.items ≡ log_of l.plan l.i;
   now : l.now ≡ grid_at l.plan l.log.items l.i;
   cats : All (λ e. e.cat < l.plan.source.cats) l.log.items;
+  words : l.words ≡ record { seed = l.plan.seed; number = l.plan.stream; place = length l.plan.path + l.i };
   known : l.known ≡ cats_in l.plan.source.cats l.now.cells;
 }

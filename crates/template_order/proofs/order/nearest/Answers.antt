@@ -2,7 +2,7 @@ use Rattle.std.proofs.Common.{◌≡◌, map, sym, subst, ◌∙◌, arith}
 use Rattle.std.specs.Prelude.{false}
 use Rattle.std.proofs.lemmas.Grind.{common_steps}
 use Rattle.std.proofs.lemmas.List.{take_all}
-use Rattle.template_order.specs.Reach.{radii_of}
+use Rattle.template_order.specs.Radii.{radii_of}
 use Rattle.template_order.specs.Template.{IsTemplate}
 use Rattle.template_order.specs.Keys.{vector_of}
 use Rattle.template_order.proofs.Facts.{template_facts}
@@ -17,7 +17,7 @@ loop-key-preserved c =
 
 pub returns : goal.returns
 returns c =
-    let r = radii_of c.args.reach in
+    let r = radii_of c.args.radii in
     let n = c.args.count in
     let keys = c.offer_box.new.keys.items in
     let least = AreLeast-candidates r n c.new-keys.result.items keys c.new-keys.ensures.items c.in_ok-offer_box.ensures in

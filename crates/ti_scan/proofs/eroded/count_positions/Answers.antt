@@ -1,5 +1,6 @@
 use Rattle.std.proofs.Common.{arith, ◌≡◌, ◌+◌, ◌∙◌, ap, sym}
 use Rattle.std.specs.List.{count_by, range_with_len}
+use Rattle.mp_base.specs.Grid.{Field, cells_of}
 use Rattle.ti_scan.specs.Eroded.{is_eroded}
 use Rattle.ti_scan.proofs.Whole.{length-positions, count-le, counts_more}
 use Rattle.ti_scan.proofs.eroded.count_positions.Goals as goal
@@ -12,8 +13,9 @@ overflow_add-count c =
       arith,
       counts_more p first c.loop-start.start c.min-len.result c.loop-start.count c.count_block-count.result c.loop-start.invariant.count c.count_block-count.ensures,
       count-le p first (c.loop-start.start + c.min-len.result),
-      c.ground_of-ground.ensures.ground.span.within,
-      c.shape-shape.ensures.grid.shape.fits,
+      c.ground_of-ground.result.inside.span.within,
+      ap (λ (f : Field). cells_of f.sides) c.ground_of-ground.ensures.image,
+      c.shape.ensures.grid.shape.fits,
       c.min-len.ensures,
     )
 
@@ -31,8 +33,9 @@ returns-clause-count c =
     let first = c.ground_of-ground.result.span.first in
     let template = c.vectors.ensures.vectors in
     let counted = c.loop-start.invariant.count ∙ ap (λ n. count_by (is_eroded c.ground_of-ground.result.image.now c.ground_of-ground.result.vectors.now) (range_with_len first n)) whole in
+    let span = rw (c.ground_of-ground.ensures.image, c.ground_of-ground.ensures.vectors) at c.ground_of-ground.result.inside.span in
     let of_args = rw (c.ground_of-ground.ensures.image, c.ground_of-ground.ensures.vectors) at counted in
-    rw (← template) (of_args ∙ sym (length-positions c.args.image.now c.vectors.result.now first c.ground_of-ground.result.span.cells c.ground_of-ground.ensures.ground.span))
+    rw (← template) (of_args ∙ sym (length-positions c.args.image.now c.vectors.result.now first c.ground_of-ground.result.span.cells span))
 
 pub returns-clause-few : goal.returns-clause-few
 returns-clause-few c =
@@ -41,6 +44,7 @@ returns-clause-few c =
       arith,
       c.loop-start.invariant.count,
       count-le p c.ground_of-ground.result.span.first c.loop-start.start,
-      c.ground_of-ground.ensures.ground.span.within,
-      c.shape-shape.ensures.grid.shape.fits,
+      c.ground_of-ground.result.inside.span.within,
+      ap (λ (f : Field). cells_of f.sides) c.ground_of-ground.ensures.image,
+      c.shape.ensures.grid.shape.fits,
     )

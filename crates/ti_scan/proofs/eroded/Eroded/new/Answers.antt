@@ -26,12 +26,12 @@ invariant_of-result c =
     let template = c.vectors.ensures.vectors in
     scanned (record { image = c.args.image.now; template = c.args.template.now.vectors; cats = c.args.cats }) c.ground_of-ground.result.margins c.loop-start.positions.items first c.ground_of-ground.result.span.cells c.loop-start.centres.items
     (record {
-      image = c.shape-shape.ensures.grid;
+      image = c.shape.ensures.grid;
       short = rw (← template) (rw template c.vectors.ensures.template.few);
       cats_some = c.requires.cats_some;
       cats_few = c.requires.cats_few;
       below = c.requires.below;
     })
-    (rw (← template) c.ground_of-ground.ensures.ground)
+    (rw (← template) (rw (c.ground_of-ground.ensures.image, c.ground_of-ground.ensures.vectors) at c.ground_of-ground.result.inside))
     (rw (← template) (rw (c.ground_of-ground.ensures.image, c.ground_of-ground.ensures.vectors) at positions))
     (rw (← template) (rw (c.ground_of-ground.ensures.image, c.ground_of-ground.ensures.vectors) at centres))

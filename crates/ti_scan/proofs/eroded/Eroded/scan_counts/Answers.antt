@@ -8,7 +8,7 @@ pub loop-start-init : goal.loop-start-init
 loop-start-init c = record {
   within = omega arith;
   eight = search rules;
-  parts = λ k below. zero_at k (omega (arith, c.positions-source.ensures.source.cats_few)) ∙ sym (found_none c.args.self.now c.args.event.now k c.self.inside.first);
+  parts = λ k below. zero_at k (omega (arith, c.positions.ensures.source.cats_few)) ∙ sym (found_none c.args.self.now c.args.event.now k c.self.inside.first);
 }
 
 pub scan_block-requires-clause-room : goal.scan_block-requires-clause-room
@@ -33,4 +33,4 @@ returns c =
     let are = subst (λ (t : Source). AreCentres t first centres) c.self.view_is c.self.invariant.centres_are in
     let end : c.loop-start.start ≡ length centres = omega (arith, ap length c.as_slice-centres.ensures.value) in
     c.of.ensures ∙ ap (λ (n : ℕ). take n c.loop-start.parts) cats
-    ∙ counts_are s event first centres c.loop-start.parts are (omega (arith, c.positions-source.ensures.source.cats_few, c.loop-start.invariant.eight)) (λ k below. c.loop-start.invariant.parts k below ∙ ap (λ (n : ℕ). found_in s event k first n) end)
+    ∙ counts_are s event first centres c.loop-start.parts are (omega (arith, c.positions.ensures.source.cats_few, c.loop-start.invariant.eight)) (λ k below. c.loop-start.invariant.parts k below ∙ ap (λ (n : ℕ). found_in s event k first n) end)
