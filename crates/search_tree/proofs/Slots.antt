@@ -6,33 +6,34 @@ use Rattle.std.proofs.lemmas.Bool.Decides.{nat_tests}
 use Rattle.std.proofs.lemmas.List.{get_or-set_other, get_or-set_same}
 use Rattle.std.proofs.lemmas.List.FromFn.{length-range_with_len}
 use Rattle.std.proofs.lemmas.List.Sums.{count_by-le-length}
-use Rattle.search_tree.specs.Growth.{in_slot, slot_of}
+use Rattle.search_tree.specs.Building.{in_slot}
+use Rattle.search_tree.specs.Ranks.{place_slot}
 use Rattle.search_tree.proofs.Sums.{count-more}
 
-module _ (places : List ℕ) (cats : ℕ) (shown : List ℕ) (base : ℕ) where
-  pub in_slot_none : (j : ℕ) → in_slot places cats shown base 0 j ≡ 0
+module _ (places : List ℕ) (cats : ℕ) (shown : List ℕ) where
+  pub in_slot_none : (j : ℕ) → in_slot places cats shown 0 j ≡ 0
   unfolding in_slot
   in_slot_none j = refl
 
-  pub in_slot_more : (n j : ℕ) → in_slot places cats shown base (n + 1) j ≡ in_slot places cats shown base n j + cond (slot_of places cats shown base n == j) 1 0
+  pub in_slot_more : (n j : ℕ) → in_slot places cats shown (n + 1) j ≡ in_slot places cats shown n j + cond (place_slot places cats shown n == j) 1 0
   unfolding in_slot
-  in_slot_more n j = count-more (λ i. slot_of places cats shown base i == j) n
+  in_slot_more n j = count-more (λ i. place_slot places cats shown i == j) n
 
-  pub in_slot-le : (n j : ℕ) → in_slot places cats shown base n j ≤ n
+  pub in_slot-le : (n j : ℕ) → in_slot places cats shown n j ≤ n
   unfolding in_slot
-  in_slot-le n j = omega (arith, count_by-le-length (λ i. slot_of places cats shown base i == j) (range_with_len 0 n), length-range_with_len 0 n)
+  in_slot-le n j = omega (arith, count_by-le-length (λ i. place_slot places cats shown i == j) (range_with_len 0 n), length-range_with_len 0 n)
 
   -- one more position
-  pub counted_more : (rows : List ℕ) (n at many : ℕ) → length rows ≡ many → at ≡ slot_of places cats shown base n → at < many → ((j : ℕ) → j < many → get_or rows j 0 ≡ in_slot places cats shown base n j) → (j : ℕ) → j < many → get_or (set rows at (get_or rows at 0 + 1)) j 0 ≡ in_slot places cats shown base (n + 1) j
+  pub counted_more : (rows : List ℕ) (n at many : ℕ) → length rows ≡ many → at ≡ place_slot places cats shown n → at < many → ((j : ℕ) → j < many → get_or rows j 0 ≡ in_slot places cats shown n j) → (j : ℕ) → j < many → get_or (set rows at (get_or rows at 0 + 1)) j 0 ≡ in_slot places cats shown (n + 1) j
   counted_more rows n at many long is within each j below = elim (cases_eq j at) [
     | inl here ↦
-        let yes : (slot_of places cats shown base n == j) ≡ true = grind (arith, nat_tests) in
-        let one : cond (slot_of places cats shown base n == j) 1 0 ≡ 0 + 1 = ap (λ b. cond b 1 0) yes in
+        let yes : (place_slot places cats shown n == j) ≡ true = grind (arith, nat_tests) in
+        let one : cond (place_slot places cats shown n == j) 1 0 ≡ 0 + 1 = ap (λ b. cond b 1 0) yes in
         ap (λ m. get_or (set rows at (get_or rows at 0 + 1)) m 0) here ∙ get_or-set_same rows at (get_or rows at 0 + 1) 0 (omega arith)
         ∙ ap (λ m. get_or rows m 0 + 1) (sym here) ∙ ap (λ m. m + 1) (each j below)
         ∙ omega (arith, in_slot_more n j, one)
     | inr there ↦
-        let no : (slot_of places cats shown base n == j) ≡ false = grind (arith, nat_tests) in
-        let none : cond (slot_of places cats shown base n == j) 1 0 ≡ 0 + 0 = ap (λ b. cond b 1 0) no in
+        let no : (place_slot places cats shown n == j) ≡ false = grind (arith, nat_tests) in
+        let none : cond (place_slot places cats shown n == j) 1 0 ≡ 0 + 0 = ap (λ b. cond b 1 0) no in
         get_or-set_other rows at j (get_or rows at 0 + 1) 0 there ∙ each j below ∙ omega (arith, in_slot_more n j, none)
   ]

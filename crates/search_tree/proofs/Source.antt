@@ -14,8 +14,7 @@ use Rattle.ti_scan.specs.Event.{Source, IsSource, cat_around, counts_of, shows, 
 use Rattle.ti_scan.specs.Rising.{RisesFrom}
 use Rattle.search_tree.proofs.Eroding.{eroded_at}
 use Rattle.search_tree.proofs.Sums.{count-filter, count-pointwise, sum-mapped}
-use Rattle.search_tree.specs.Words.{found, has_each}
-use Rattle.search_tree.specs.Levels.{cell_of, centre, many, table}
+use Rattle.search_tree.specs.Levels.{cell_of, centre, found, has_each, many, table}
 
 some_is : (v : Option ℕ) → is_some v ≡ true → v ≡ Some (unwrap_or v 0)
 some_is None e = absurd (false≢true e)
@@ -86,7 +85,7 @@ module _ (s : Source) (is : IsSource s) where
       here = ap (cat_around s (cell_of s i)) (sym position) ∙ table_is i (d.position - 1) within (omega (arith, rising.0, rising.1))
 
   -- what is found in the table is what the source counts
-  pub found_is : (event : List Datum) (k : ℕ) → RisesFrom 1 (length s.template) event → k < s.cats → found (table s) (centre s) (many s) [] event k ≡ get_or (counts_of s event) k 0
+  pub found_is : (event : List Datum) (k : ℕ) → RisesFrom 1 (length s.template) event → k < s.cats → found (table s) (centre s) (many s) event k ≡ get_or (counts_of s event) k 0
   unfolding tallied
   found_is event k rising small =
       count-pointwise _ _ (many s) (λ i within. ap (λ b. b && centre s i == k) (sym (shows_each i 1 event within (omega arith) rising)) ∙ ap (λ v. list_all (shows s (cell_of s i)) event && is_cat v k) (sym (centre_is i within)))

@@ -1,11 +1,11 @@
--- The levels of the tree of a source.
-use Rattle.std.specs.Prelude.{◌≡◌, ℕ, suc, ◌+◌, ◌*◌, ◌≤◌, List, length, slice_index, unwrap_or}
-use Rattle.std.specs.List.{range_with_len, sum_by}
+-- What an image shows around each of its eroded positions, and the ranks of these patterns.
+use Rattle.std.specs.Prelude.{◌≡◌, ℕ, suc, ◌+◌, ◌-◌, ◌*◌, ◌<◌, ◌≤◌, ◌==◌, Bool, ◌&&◌, List, Some, length, slice_index, unwrap_or}
+use Rattle.std.specs.List.{count_by, list_all, range_with_len, sum_by}
 use Rattle.mp_base.specs.Grid.{cat_of}
+use Rattle.ti_scan.specs.declared.event.Datum.{Datum}
 use Rattle.ti_scan.specs.Eroded.{positions_of}
 use Rattle.ti_scan.specs.Event.{Source, cat_around}
-use Rattle.search_tree.specs.Prefixes.{prefixes}
-use Rattle.search_tree.specs.Words.{IsGrowth}
+use Rattle.search_tree.specs.Prefixes.{prefixes, same_prefix}
 
 -- position number i of the source
 abbrev pub cell_of : Source → ℕ → ℕ
@@ -15,16 +15,45 @@ cell_of s i = slice_index (positions_of s.image s.template) i
 abbrev pub many : Source → ℕ
 many s = length (positions_of s.image s.template)
 
+-- the patterns of positions: the category of position i at template position q + 1
+abbrev pub Table : Type 0
+Table = ℕ → ℕ → ℕ
+
 -- the category at template position q + 1 around position i
-abbrev pub table : Source → ℕ → ℕ → ℕ
+abbrev pub table : Source → Table
 table s i q = unwrap_or (cat_around s (cell_of s i) (suc q)) 0
 
 -- the category of position i
 abbrev pub centre : Source → ℕ → ℕ
 centre s i = unwrap_or (cat_of s.image.cells (cell_of s i)) 0
 
--- the tree of a source as far as a level: it has a node for each prefix up to there
-pub record IsLevel (s : Source) (depth : ℕ) (children counts places : List ℕ) (first nodes : ℕ) : Type 0 where
-  pub growth : IsGrowth (length s.template) s.cats (table s) (centre s) (many s) depth children counts places first nodes
+-- the pattern of position i has each datum
+abbrev pub has_each : Table → ℕ → List Datum → Bool
+has_each p i event = list_all (λ d. p i (d.position - 1) == d.cat) event
+
+-- how many of the first n positions have each datum and category k at their centre
+abbrev pub found : Table → (ℕ → ℕ) → ℕ → List Datum → ℕ → ℕ
+found p c n event k = count_by (λ i. has_each p i event && c i == k) (range_with_len 0 n)
+
+-- what the image shows at a template position around each cell
+pub record AreShown (s : Source) (position : ℕ) (cells shown : List ℕ) : Type 0 where
+  pub count : length shown ≡ length cells
+  pub each : (i : ℕ) → i < length cells → cat_around s (slice_index cells i) position ≡ Some (slice_index shown i)
+
+-- the categories of these cells
+pub record AreCentres (s : Source) (cells centres : List ℕ) : Type 0 where
+  pub count : length centres ≡ length cells
+  pub each : (i : ℕ) → i < length cells → cat_of s.image.cells (slice_index cells i) ≡ Some (slice_index centres i)
+
+-- positions have one place exactly where their patterns agree at the first template positions
+abbrev pub AreAlike : Source → ℕ → List ℕ → Type 0
+AreAlike s depth places = (i j : ℕ) → i < many s → j < many s → (slice_index places i == slice_index places j) ≡ same_prefix s depth (cell_of s i) (cell_of s j)
+
+-- the ranks of positions: those have one place whose patterns agree at the first template positions
+pub record IsRanked (s : Source) (depth : ℕ) (places : List ℕ) (classes nodes : ℕ) : Type 0 where
+  pub count : length places ≡ many s
+  pub alike : AreAlike s depth places
+  pub below : (i : ℕ) → i < many s → slice_index places i < classes
+  pub few : classes ≤ 1 + many s
   pub nodes_are : nodes ≡ 1 + sum_by (prefixes s) (range_with_len 1 depth)
-  pub few : nodes ≤ 1 + depth * many s
+  pub nodes_few : nodes ≤ 1 + depth * many s

@@ -3,7 +3,7 @@ ghost use Rattle.std.specs.Prelude.{◌≡◌, ◌-◌, ◌<◌, ◌≤◌, Some
 ghost use Rattle.mp_base.specs.declared.cell.Vector.{Vector};
 ghost use Rattle.mp_base.specs.Grid.{cat_of, cell_at, cells_of};
 ghost use Rattle.ti_scan.specs.Eroded.{is_eroded, positions_of};
-ghost use Rattle.search_tree.specs.Growth.{AreCentres, AreShown};
+ghost use Rattle.search_tree.specs.Levels.{AreCentres, AreShown};
 
 use mp_base::CellId;
 use ti_scan::Eroded;

@@ -1,15 +1,24 @@
 //! The search tree of SNESIM (Strebelle 2002): the replicates of a data event are counted without
-//! a look at the training image.
+//! a look at the training image. What is kept is the ends of its branches, the distinct patterns, in
+//! the order of the branches: in blocks of 64 patterns, and groups of 64 blocks.
 #![tactic(auto)]
 
+mod answering;
+mod building;
+mod counting;
+mod drawing;
 mod filling;
-mod growth;
-mod nodes;
+mod forest;
+mod group;
+mod longest;
+mod picking;
+mod placing;
+mod ranks;
+mod refining;
 mod shared;
-mod tally;
+mod summing;
 #[cfg(test)]
 mod tests;
 mod tree;
-mod walk;
 
 pub use tree::SearchTree;

@@ -1,0 +1,9 @@
+pub mod Sums
+pub mod Pairs
+pub mod Bits
+pub mod MarkedSums
+pub mod Tallies
+pub mod Matching
+pub mod Marking
+pub mod Planing
+pub mod Drawing

@@ -1,0 +1,32 @@
+-- What is built of the patterns of a source, by rank.
+use Rattle.std.specs.Prelude.{◌≡◌, ℕ, ◌+◌, ◌*◌, ◌<◌, ◌==◌, ◌&&◌, List, length, slice_index}
+use Rattle.std.specs.List.{count_by, range_with_len}
+use Rattle.ti_scan.specs.Event.{Source}
+use Rattle.pattern_blocks.specs.Drawn.{IsAmong, bit_of}
+use Rattle.pattern_blocks.specs.Planes.{PlaneRows}
+use Rattle.pattern_blocks.specs.Rows.{BitRows}
+use Rattle.pattern_blocks.specs.Tally.{number_of}
+use Rattle.search_tree.specs.Levels.{centre, many, table}
+use Rattle.search_tree.specs.Ranks.{place_slot}
+
+-- of each rank it is marked what its positions show at the first template positions, and nothing else
+pub record IsDrawn (s : Source) (place : ℕ → ℕ) (depth : ℕ) (words : List ℕ) : Type 0 where
+  pub marked : (i q : ℕ) → i < many s → q < depth → bit_of words (length s.template) s.cats (place i) q (table s i q) ≡ 1
+  pub only : (r q k : ℕ) → q < length s.template → k < s.cats → bit_of words (length s.template) s.cats r q k ≡ 1 → IsAmong place (λ i. table s i q) (many s) r k
+
+-- for each rank that a position has, one position with that rank
+pub record ArePicks (places picks : List ℕ) : Type 0 where
+  pub within : (r : ℕ) → r < length picks → slice_index picks r < length places
+  pub known : (i : ℕ) → i < length places → slice_index places i < length picks
+  pub own : (i : ℕ) → i < length places → slice_index places (slice_index picks (slice_index places i)) ≡ slice_index places i
+
+-- how many of the first n positions have slot j
+unfoldable pub in_slot : List ℕ → ℕ → List ℕ → ℕ → ℕ → ℕ
+in_slot places cats shown n j = count_by (λ i. place_slot places cats shown i == j) (range_with_len 0 n)
+
+-- the blocks of so many groups have what the positions of each rank show, and how many of these have each category at their centre
+pub record IsBuilt (s : Source) (places : List ℕ) (groups : ℕ) (shown : BitRows) (counts : PlaneRows) : Type 0 where
+  pub reach : shown.reach ≡ length s.template
+  pub cats : shown.cats ≡ s.cats
+  pub drawn : IsDrawn s (slice_index places) (length s.template) shown.words
+  pub numbers : (b u k : ℕ) → b < groups * 64 → u < 64 → k < s.cats → number_of counts s.cats b k u ≡ count_by (λ i. slice_index places i == b * 64 + u && centre s i == k) (range_with_len 0 (many s))
