@@ -1,34 +1,15 @@
 -- Cells after the entries of the path's first nodes, one entry after another.
-use Rattle.std.proofs.Common.{◌≡◌, ℕ, zero, suc, ◌+◌, ◌<◌, ◌≤◌, true, false, is_some, List, [], ◌∷◌, length, get_or, set, take, Option, Some, None, inl, inr, refl, ap, sym, ◌∙◌, arith, subst}
+use Rattle.std.proofs.Common.{◌≡◌, ℕ, zero, suc, ◌+◌, ◌<◌, ◌≤◌, true, false, is_some, List, length, get_or, set, take, Option, Some, None, inl, inr, refl, ap, sym, ◌∙◌, arith, subst}
 use Rattle.std.proofs.lemmas.Bool.{cases_eq, false≢true}
-use Rattle.std.proofs.lemmas.List.{length-set}
 use Rattle.std.proofs.lemmas.List.Sums.{fold_more}
 use Rattle.std.proofs.Math.Numerals.{add-one}
 use Rattle.mp_base.specs.declared.cell.Entry.{Entry}
 use Rattle.mp_base.specs.Grid.{cat_of}
+use Rattle.mp_base.specs.Cells.{with_entries}
+use Rattle.mp_base.proofs.Entries.{cat_of-set_same, cat_of-set_other, length-with_entries}
 use Rattle.path_stream.specs.Ranks.{rank_in}
 use Rattle.path_stream.proofs.Slots.{rank_in-at, rank_in-here}
-use Rattle.event_retrieve.specs.Plan.{Plan, cell_of, with_entries, IsPath, IsLog, IsFront}
-
--- what a write changes
-pub cat_of-set_same : (cells : List (Option ℕ)) (c : ℕ) (v : Option ℕ) → c < length cells → cat_of (set cells c v) c ≡ v
-cat_of-set_same [] c v within = absurd (omega arith)
-cat_of-set_same (x ∷ cells) zero v within = same v
-  where
-    same : (v : Option ℕ) → cat_of (v ∷ cells) zero ≡ v
-    same v = refl
-cat_of-set_same (x ∷ cells) (suc c) v within = cat_of-set_same cells c v (omega arith)
-
-pub cat_of-set_other : (cells : List (Option ℕ)) (c j : ℕ) (v : Option ℕ) → (j ≡ c → ⊥) → cat_of (set cells c v) j ≡ cat_of cells j
-cat_of-set_other [] c j v apart = refl
-cat_of-set_other (x ∷ cells) zero zero v apart = absurd (apart refl)
-cat_of-set_other (x ∷ cells) zero (suc j) v apart = refl
-cat_of-set_other (x ∷ cells) (suc c) zero v apart = refl
-cat_of-set_other (x ∷ cells) (suc c) (suc j) v apart = cat_of-set_other cells c j v (λ e. apart (ap suc e))
-
-pub length-with_entries : (cells : List (Option ℕ)) (log : List Entry) → length (with_entries cells log) ≡ length cells
-length-with_entries cells [] = refl
-length-with_entries cells (e ∷ log) = length-with_entries (set cells e.cell (Some e.cat)) log ∙ length-set cells e.cell (Some e.cat)
+use Rattle.event_retrieve.specs.Plan.{Plan, cell_of, IsPath, IsLog, IsFront}
 
 pub some_same : (i j : ℕ) → Some i ≡ Some j → i ≡ j
 some_same i j e = cc

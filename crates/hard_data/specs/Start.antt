@@ -4,6 +4,7 @@ use Rattle.std.specs.Int.{abs_diff}
 use Rattle.std.specs.List.{range_with_len}
 use Rattle.std.specs.Option.{option_or}
 use Rattle.mp_base.specs.declared.cell.Entry.{Entry}
+use Rattle.mp_base.specs.Cells.{with_entries}
 use Rattle.mp_base.specs.Grid.{Sides, Field, field, cells_of, cell_number, x_of, y_of, z_of, cat_of}
 use Rattle.multigrid.specs.Levels.{spacing, is_node, nodes_of}
 use Rattle.hard_data.specs.declared.moves.Move.{Move}
@@ -65,4 +66,4 @@ moves_of hard values level = filter_map (move_to hard values level) (nodes_of ha
 
 -- the values after the entries of a log are set, the first of them first
 abbrev pub values_after : Field → List Entry → Field
-values_after values log = field values.sides (fold (λ now e. slice_set now e.cell (Some e.cat)) values.cells log)
+values_after values log = field values.sides (with_entries values.cells log)

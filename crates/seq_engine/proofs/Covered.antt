@@ -16,13 +16,13 @@ use Rattle.hard_data.specs.Start.{datum_or_value, node_start, start_of, values_a
 use Rattle.hard_data.proofs.Known.{start-sides, start_at, finest_node, finest_start}
 use Rattle.path_stream.specs.Words.{word_of, stream_of}
 use Rattle.path_stream.proofs.Paths.{path_of-permutation, word_of-below}
-use Rattle.event_retrieve.specs.Plan.{Plan, cell_of, with_entries, unknown_nodes}
+use Rattle.event_retrieve.specs.Plan.{Plan, cell_of, unknown_nodes}
 use Rattle.event_retrieve.specs.Sequential.{sequential}
 use Rattle.event_retrieve.proofs.Logs.{IsLog-sequential}
-use Rattle.event_retrieve.proofs.Fronts.{length-with_entries}
+use Rattle.mp_base.specs.Cells.{with_entries}
+use Rattle.mp_base.proofs.Entries.{known_after, length-with_entries, stays_known}
 use Rattle.seq_engine.specs.declared.setup.Setup.{Setup}
 use Rattle.seq_engine.specs.Realisation.{plan_over, values_at, realised}
-use Rattle.seq_engine.proofs.Cells.{known_after, stays_known}
 
 filter_step : (b : Bool) (x : ℕ) (xs ys : List ℕ) → b ≡ true → ys ≡ xs → cond b (x ∷ ys) ys ≡ x ∷ xs
 filter_step true x xs ys holds same = ap (λ l. x ∷ l) same

@@ -12,13 +12,15 @@ use Rattle.ti_scan.specs.declared.event.Datum.{Datum}
 use Rattle.ti_scan.specs.Event.{Source, IsSource, counts_of, total_of, tallied, shows}
 use Rattle.ti_scan.specs.Eroded.{positions_of, is_eroded}
 use Rattle.ti_scan.proofs.Counting.{length-filter-range-le}
-use Rattle.event_retrieve.specs.Plan.{Plan, nodes_in, cell_of, with_entries, grid_at, known, data_by, cats_in, IsPath}
+use Rattle.mp_base.specs.Cells.{category_counts, with_entries}
+use Rattle.mp_base.proofs.Entries.{length-with_entries}
+use Rattle.event_retrieve.specs.Plan.{Plan, nodes_in, cell_of, grid_at, known, data_by, IsPath}
 use Rattle.ti_scan.specs.Prefix.{longest, has_enough}
 use Rattle.event_retrieve.specs.Retrieval.{retained, cut}
 use Rattle.event_retrieve.specs.Sequential.{log_of, entry_after, sequential, drawn}
 use Rattle.ti_scan.proofs.Greatest.{greatest-passes}
 use Rattle.event_retrieve.proofs.Logs.{length-log_of, take-log_of, IsLog-sequential}
-use Rattle.event_retrieve.proofs.Fronts.{length-with_entries, unknown_yet, IsFront-log}
+use Rattle.event_retrieve.proofs.Fronts.{unknown_yet, IsFront-log}
 
 abbrev pub entry : ℕ → ℕ → Entry
 entry c k = record { cell = c; cat = k }
@@ -75,10 +77,10 @@ known_is p log now vectors c i is_now is_template is_cell =
     ∙ ap (λ (t : List Vector). data_by (λ _ v. cat_at (grid_at p log i) (cell_of p i) v) t) is_template
 
 -- an entry is that of its node where the parts are
-pub entry_is : (p : Plan) (log : List Entry) (i cat : ℕ) (event : List Datum) (counts known_cats : List ℕ) → event ≡ known p log i i → counts ≡ counts_of p.source (retained p event) → known_cats ≡ cats_in p.source.cats (grid_at p log i).cells → cat ≡ drawn p i counts known_cats → (c : ℕ) → c ≡ cell_of p i → entry c cat ≡ entry_after p log i
+pub entry_is : (p : Plan) (log : List Entry) (i cat : ℕ) (event : List Datum) (counts known_cats : List ℕ) → event ≡ known p log i i → counts ≡ counts_of p.source (retained p event) → known_cats ≡ category_counts p.source.cats (grid_at p log i).cells → cat ≡ drawn p i counts known_cats → (c : ℕ) → c ≡ cell_of p i → entry c cat ≡ entry_after p log i
 unfolding entry_after
 entry_is p log i cat event counts known_cats is_event is_counts is_cats is_cat c is_cell =
     ap (λ (x : ℕ). entry x cat) is_cell
     ∙ ap (λ (k : ℕ). entry (cell_of p i) k)
     (is_cat ∙ ap (λ (n : List ℕ). drawn p i counts n) is_cats
-    ∙ ap (λ (n : List ℕ). drawn p i n (cats_in p.source.cats (grid_at p log i).cells)) (is_counts ∙ ap (λ (e : List Datum). counts_of p.source (retained p e)) is_event))
+    ∙ ap (λ (n : List ℕ). drawn p i n (category_counts p.source.cats (grid_at p log i).cells)) (is_counts ∙ ap (λ (e : List Datum). counts_of p.source (retained p e)) is_event))

@@ -1,8 +1,9 @@
 // The sequential simulation of a level.
 ghost use Rattle.std.specs.Prelude.{◌≡◌, ◌<◌, ◌≤◌, length, slice_set, Some, None, IfOk, All};
+ghost use Rattle.mp_base.specs.Cells.{category_counts};
 ghost use Rattle.mp_base.specs.Grid.{cat_of, field};
 ghost use Rattle.ti_scan.specs.Event.{IsEvent, StandsFor};
-ghost use Rattle.event_retrieve.specs.Plan.{grid_at, cats_in, cell_of, known as known_of};
+ghost use Rattle.event_retrieve.specs.Plan.{grid_at, cell_of, known as known_of};
 ghost use Rattle.event_retrieve.specs.Sequential.{draw_word, sequential, entry_after};
 
 use event_retrieve::{LevelPlan, Surroundings, pick_with, retain};
@@ -54,7 +55,7 @@ fn next_entry<S: CountStore>(
     requires index { index < length plan.now.path }
     requires event { event.now ≡ known_of plan.now log.now index index }
     requires rising { IsEvent (length plan.now.source.template) event.now }
-    requires known { known.now ≡ cats_in plan.now.source.cats (grid_at plan.now log.now index).cells }
+    requires known { known.now ≡ category_counts plan.now.source.cats (grid_at plan.now log.now index).cells }
     requires word { word ≡ draw_word plan.now index }
     ensures entry { result ≡ entry_after plan.now log.now index }
     ensures cell { result.cell ≡ cell_of plan.now index }
@@ -75,9 +76,9 @@ fn commit(now: &mut Grid, known: &mut Counts, entry: &Entry, cats: u8)
     requires cell { entry.now.cell < length now.old.cells }
     requires unknown { cat_of now.old.cells entry.now.cell ≡ None }
     requires cat { entry.now.cat < cats }
-    requires known { known.old ≡ cats_in cats now.old.cells }
+    requires known { known.old ≡ category_counts cats now.old.cells }
     ensures now { now.new ≡ field now.old.sides (slice_set now.old.cells entry.now.cell (Some entry.now.cat)) }
-    ensures known { known.new ≡ cats_in cats now.new.cells }
+    ensures known { known.new ≡ category_counts cats now.new.cells }
 {
     let _ = now.shape();
     now.set(entry.cell, Some(entry.cat));

@@ -4,7 +4,7 @@ use Rattle.mp_base.specs.declared.cell.Vector.{Vector}
 use Rattle.mp_base.specs.Grid.{Sides, IsShape, cat_at, cat_of, cell_at, cells_of}
 use Rattle.ti_scan.specs.Rising.{RisesFrom, next_position}
 use Rattle.event_retrieve.specs.Plan.{data_by, datum_at}
-use Rattle.event_retrieve.proofs.AroundLemmas.{IsFurther, further, as_many}
+use Rattle.event_retrieve.proofs.AroundLemmas.{further, as_many}
 use Rattle.event_retrieve.proofs.Data.{data_by-rises, data_by_more, next_position-data_by}
 use Rattle.event_retrieve.proofs.around.event_within.Goals as goal
 

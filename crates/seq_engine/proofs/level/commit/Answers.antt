@@ -1,7 +1,7 @@
 use Rattle.std.proofs.Common.{arith, ◌≡◌, ◌∙◌, sym, ap, get_or, None}
 use Rattle.mp_base.proofs.Tallies.{length-tally, tally-le-length, tally-set, cat_of-get_or}
 use Rattle.mp_base.specs.Counts.{one_more}
-use Rattle.event_retrieve.specs.Plan.{cats_in}
+use Rattle.mp_base.specs.Cells.{category_counts}
 use Rattle.seq_engine.proofs.level.commit.Goals as goal
 
 pub add_one-requires-clause-cat : goal.add_one-requires-clause-cat
@@ -17,4 +17,4 @@ returns-clause-known c =
     let none : get_or c.args.now.now.cells c.args.entry.now.cell None ≡ None = sym (cat_of-get_or c.args.now.now.cells c.args.entry.now.cell) ∙ c.requires.unknown in
     c.add_one.ensures ∙ ap (λ k. one_more k c.args.entry.now.cat) c.requires.known
     ∙ sym (tally-set c.args.cats c.args.now.now.cells c.args.entry.now.cell c.args.entry.now.cat c.requires.cell none c.requires.cat)
-    ∙ ap (λ g. cats_in c.args.cats g.cells) (sym c.set.ensures)
+    ∙ ap (λ g. category_counts c.args.cats g.cells) (sym c.set.ensures)

@@ -4,7 +4,8 @@ use Rattle.mp_base.specs.Grid.{field, Field, cells_of}
 use Rattle.ti_scan.specs.Event.{IsEvent}
 use Rattle.event_retrieve.specs.Around.{Around}
 use Rattle.path_stream.specs.Words.{Place}
-use Rattle.event_retrieve.specs.Plan.{Plan, cats_in, grid_at}
+use Rattle.mp_base.specs.Cells.{category_counts}
+use Rattle.event_retrieve.specs.Plan.{Plan, grid_at}
 use Rattle.event_retrieve.specs.Sequential.{log_of, entry_after}
 use Rattle.event_retrieve.proofs.Logs.{log_of_more, length-log_of}
 use Rattle.seq_engine.proofs.LogLemmas.{grid_at-push, unknown_at_turn, length-grid_at, known_is}
@@ -25,7 +26,7 @@ loop-i-init g c =
       now = start;
       cats = rw c.in_ok-log.ensures.items (λ k d in_list. absurd (omega arith));
       words = c.draw_words-words.ensures ∙ ap (place_of c.args.plan.now) (omega arith);
-      known = c.start_counts-known.ensures ∙ ap (λ (g : Field). cats_in c.args.plan.now.source.cats g.cells) (sym start);
+      known = c.start_counts-known.ensures ∙ ap (λ (g : Field). category_counts c.args.plan.now.source.cats g.cells) (sym start);
     }
 
 pub event_on-event-requires-clause-sides : goal.event_on-event-requires-clause-sides
@@ -60,7 +61,7 @@ pub next_entry-entry-requires-clause-known : goal.next_entry-entry-requires-clau
 next_entry-entry-requires-clause-known g c = λ _ _.
     let p = c.args.plan.now in
     let now = c.loop-i.invariant.now ∙ ap (λ l. grid_at p l c.loop-i.i) (sym c.as_slice.ensures.value) in
-    c.loop-i.invariant.known ∙ ap (λ (f : Field). cats_in p.source.cats f.cells) now
+    c.loop-i.invariant.known ∙ ap (λ (f : Field). category_counts p.source.cats f.cells) now
 
 pub commit-requires-clause-cell : goal.commit-requires-clause-cell
 commit-requires-clause-cell g c =
@@ -91,5 +92,5 @@ loop-i-preserved g c =
           ∙ sym (grid_at-push p log e i (ap length c.loop-i.invariant.log ∙ length-log_of p i)) ∙ ap (λ l. grid_at p l (i + 1)) (sym items);
       cats = rw items (All-push (λ (x : Entry). x.cat < p.source.cats) log e c.loop-i.invariant.cats c.next_entry-entry.ensures.cat);
       words = c.next_word-word.ensures.place ∙ ap (λ (q : Place). record q { place = q.place + 1 }) c.loop-i.invariant.words ∙ ap (place_of p) (omega arith);
-      known = c.commit.ensures.known ∙ ap (λ n. cats_in n c.commit.new.now.cells) (c.cats-cats.ensures ∙ ap (λ s. s.cats) c.eroded-eroded.ensures.source);
+      known = c.commit.ensures.known ∙ ap (λ n. category_counts n c.commit.new.now.cells) (c.cats-cats.ensures ∙ ap (λ s. s.cats) c.eroded-eroded.ensures.source);
     }

@@ -5,7 +5,8 @@ use Rattle.mp_base.specs.Grid.{Field, IsBelow, cells_of}
 use Rattle.hard_data.proofs.Known.{length-start, start-nodes, start-below}
 use Rattle.event_retrieve.specs.Plan.{Plan, KnowsNodes}
 use Rattle.event_retrieve.specs.Sequential.{sequential}
-use Rattle.seq_engine.proofs.Cells.{below_after, log-inside}
+use Rattle.mp_base.proofs.Entries.{below_after}
+use Rattle.seq_engine.proofs.Cells.{log-inside}
 use Rattle.seq_engine.proofs.realisation.simulate_level.Goals as goal
 
 pub plan_at-requires-clause-nodes : goal.plan_at-requires-clause-nodes
