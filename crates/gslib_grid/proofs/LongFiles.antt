@@ -6,9 +6,9 @@ use Rattle.std.specs.Result.{result_err}
 use Rattle.std.proofs.lemmas.List.{length-take, length-take-le, length-drop, drop-take}
 use Rattle.std.proofs.lemmas.List.Sums.{sum_by_push}
 use Rattle.std.proofs.lemmas.Bool.{false≢true, cases_lt, lt-ltb, ltb-false}
-use Rattle.bstr.specs.Records.{trim_record}
+use Rattle.mp_text.specs.Lines.{without_line_feed}
 use Rattle.mp_base.specs.declared.codes.Codes.{Codes}
-use Rattle.gslib_grid.specs.Lines.{lines_of}
+use Rattle.mp_text.specs.Lines.{lines_of}
 use Rattle.gslib_grid.specs.Table.{Added, ended, first_fault, front_of, is_too_long, judged, table_of, wanted_of}
 use Rattle.gslib_grid.specs.declared.want.Want.{Want}
 use Rattle.gslib_grid.specs.declared.want.Wanted.{Wanted}
@@ -106,12 +106,12 @@ module _ (wanted : Wanted) (codes : Codes) where
   -- a line that reaches beyond the limit is too long
   too_long : (before : List (List ℕ)) (line : List ℕ) → 2 ^ 28 < sum_by length before + length line → judged wanted codes (front_of wanted codes before) line ≡ Err (TooLong (length before + 1))
   unfolding judged
-  too_long before line over = taken (is_too_long (front_of wanted codes before) line) _ _ (or_second (ltb 65536 (length (trim_record 10 line))) _ (lt-ltb _ _ over))
+  too_long before line over = taken (is_too_long (front_of wanted codes before) line) _ _ (or_second (ltb 65536 (length (without_line_feed line))) _ (lt-ltb _ _ over))
 
   -- a line that is accepted doesn't
   in_limit : (before : List (List ℕ)) (line : List ℕ) (added : Added) → judged wanted codes (front_of wanted codes before) line ≡ Ok added → sum_by length before + length line ≤ 2 ^ 28
   unfolding judged
-  in_limit before line added is = ltb-false (2 ^ 28) (sum_by length before + length line) (neither (ltb 65536 (length (trim_record 10 line))) _ (not_taken (is_too_long (front_of wanted codes before) line) (TooLong (length before + 1)) _ added is))
+  in_limit before line added is = ltb-false (2 ^ 28) (sum_by length before + length line) (neither (ltb 65536 (length (without_line_feed line))) _ (not_taken (is_too_long (front_of wanted codes before) line) (TooLong (length before + 1)) _ added is))
 
   fault_first : (before : List (List ℕ)) (line : List ℕ) (lines : List (List ℕ)) (fault : TableFault) → judged wanted codes (front_of wanted codes before) line ≡ Err fault → first_fault wanted codes before (line ∷ lines) ≡ Some fault
   unfolding first_fault
