@@ -49,3 +49,11 @@ module _ {X : Type 0} (p : X → Bool) (xs : List X) where
   first_none d none =
       ap (λ n. cond (ltb n (length xs)) (Some n) None) (position_or_len_is p xs (length xs) d (omega arith) none (λ more. absurd (omega arith)))
       ∙ ap (λ b. cond b (Some (length xs)) None) (le-ltb (length xs) (length xs) (omega arith))
+
+  -- the same by the place itself
+  pub any_within : (d : X) → position_or_len p xs < length xs → list_any p xs ≡ true
+  any_within d within =
+      list_any_at p xs (position_or_len p xs) d within (not-false (p (get_or xs (position_or_len p xs) d)) (prefix_len_stops (λ x. not (p x)) xs d within))
+
+  pub any_past : position_or_len p xs ≡ length xs → list_any p xs ≡ false
+  any_past past = list_any_none p xs (λ k d in_list. fails_before_first p xs k d (omega (arith, past)))

@@ -1,5 +1,5 @@
 -- The fields of a text, and texts without the blanks at their ends.
-use Rattle.std.specs.Prelude.{ℕ, ◌-◌, Bool, ◌==◌, ◌||◌, not, nat_lt, List, length, take, drop, filter}
+use Rattle.std.specs.Prelude.{ℕ, ◌-◌, Bool, true, ◌==◌, ◌||◌, not, nat_lt, List, [], ◌∷◌, length, take, drop, filter}
 use Rattle.std.specs.List.{position_or_len, slice_split, suffix_len}
 
 -- a space or a tab
@@ -28,3 +28,12 @@ to_visible text = take (length text - suffix_len is_blank text) text
 -- without the blanks at either end
 abbrev pub trimmed : List ℕ → List ℕ
 trimmed text = to_visible (from_visible text)
+
+-- nothing, or a text that begins with `#`
+abbrev pub is_remark : List ℕ → Bool
+is_remark [] = true
+is_remark (b ∷ bs) = b == 35
+
+-- blanks alone, or blanks and a remark
+abbrev pub is_skipped : List ℕ → Bool
+is_skipped line = is_remark (from_visible line)

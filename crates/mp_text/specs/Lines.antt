@@ -8,9 +8,13 @@ unfoldable pub lines_of : List ℕ → List (List ℕ)
 lines_of [] = []
 lines_of (b ∷ bs) = if b == 10 then (b ∷ []) ∷ lines_of bs else onto_first b (lines_of bs)
 
+-- without the line feed that ends it
+abbrev pub without_line_feed : List ℕ → List ℕ
+without_line_feed line = trim_record 10 line
+
 -- what a line says: without its line feed, and without one carriage return before that or at the file's end
 abbrev pub text_of : List ℕ → List ℕ
-text_of line = trim_record 13 (trim_record 10 line)
+text_of line = trim_record 13 (without_line_feed line)
 
 -- what the lines of a file say
 abbrev pub line_texts : List ℕ → List (List ℕ)

@@ -2,7 +2,7 @@
 ghost use Rattle.std.specs.Prelude.{◌≡◌, ◌==◌, ◌≤◌, ◌<◌, ◌-◌, [], ◌∷◌, length, slice_get, nat_le, IfNone, IfSome};
 ghost use Rattle.std.specs.List.{after_first, before_first, position, position_or_len};
 ghost use Rattle.std.specs.Option.{option_copied};
-ghost use Rattle.mp_text.specs.Fields.{fields_of, from_visible, is_blank, is_visible, to_visible, trimmed};
+ghost use Rattle.mp_text.specs.Fields.{fields_of, from_visible, is_blank, is_skipped, is_visible, to_visible, trimmed};
 
 /// The field in a column, counted from 1, or nothing where there are fewer.
 pub fn field_at(text: &[u8], column: usize) -> Option<&[u8]>
@@ -94,6 +94,16 @@ pub fn is_blank(byte: u8) -> bool
     ensures { result ≡ is_blank byte }
 {
     byte == b' ' || byte == b'\t'
+}
+
+/// Whether a line has blanks alone, or begins a remark: its first byte other than a blank is `#`.
+pub fn is_skipped(line: &[u8]) -> bool
+    ensures { result ≡ is_skipped line.now }
+{
+    match from_visible(line) {
+        [] => true,
+        [first, ..] => *first == b'#',
+    }
 }
 
 /// What stands before and behind the first such byte, or nothing exactly where there is none.

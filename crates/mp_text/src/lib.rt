@@ -5,7 +5,9 @@
 mod field;
 mod line;
 
-pub use field::{cut, field_at, from_visible, has_fields, is_blank, next_field, trimmed};
+pub use field::{
+    cut, field_at, from_visible, has_fields, is_blank, is_skipped, next_field, trimmed,
+};
 pub use line::{line_end, line_text, next_line, without_line_feed};
 
 #[cfg(test)]

@@ -1,7 +1,7 @@
 // The lines of a file.
 ghost use Rattle.std.specs.Prelude.{◌≡◌, ◌≤◌, ◌<◌, ◌∷◌, [], IfNone, IfSome, length};
 ghost use Rattle.bstr.specs.Records.{trim_record};
-ghost use Rattle.mp_text.specs.Lines.{line_end, lines_of, text_of};
+ghost use Rattle.mp_text.specs.Lines.{line_end, lines_of, text_of, without_line_feed};
 
 use bstr::ByteSlice;
 
@@ -34,7 +34,7 @@ pub fn line_end(bytes: &[u8]) -> Option<usize>
 
 /// The line without the line feed that ends it.
 pub fn without_line_feed(line: &[u8]) -> &[u8]
-    ensures { result.now ≡ trim_record 10 line.now }
+    ensures { result.now ≡ without_line_feed line.now }
 {
     without_last(line, b'\n')
 }
