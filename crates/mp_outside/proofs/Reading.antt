@@ -1,21 +1,18 @@
 -- Reading on: what one more read adds to what was read of a file so far.
-use Rattle.std.proofs.Common.{◌≡◌, ◌∙◌, ap, ℕ, ◌+◌, ◌≤◌, Bool, List, [], ◌++◌, length, length-append, take, drop, Option, Some, None, Ok, arith, subst, sym}
+use Rattle.std.proofs.Common.{◌≡◌, ◌∙◌, ap, ℕ, ◌+◌, ◌≤◌, List, [], ◌++◌, length, length-append, take, drop, Option, Some, None, Ok, arith, subst, sym}
 use Rattle.std.proofs.Math.Seq.{take-add}
 use Rattle.std.proofs.lemmas.List.{length-take-le}
 use Rattle.std.specs.Option.{MatchOption}
-use Rattle.mp_outside.specs.Causes.{NoneFell, SameCounts}
-use Rattle.mp_outside.specs.Contents.{Held, SameHeld, OnlyReads, ReadsFrom, ReadsAt}
+use Rattle.mp_outside.specs.Contents.{ReadsFrom, ReadsAt}
+use Rattle.mp_outside.specs.Seen.{FilesSeen, OnlyReads}
 
--- a call that only reads, after calls that only read
-pub only_reads_on : {S : Type 0} (tells : S → Bool) (held : S → Held) (reads writes : S → List ℕ → ℕ) (before between now : S)
-    → OnlyReads tells held reads writes before between
-    → tells now ≡ tells between → SameHeld (held between) (held now) → NoneFell (reads between) (reads now) → SameCounts (writes between) (writes now)
-    → OnlyReads tells held reads writes before now
-only_reads_on tells held reads writes before between now first told same later counts = record {
-  tells_same = told ∙ first.tells_same;
-  held_same = λ name. same name ∙ first.held_same name;
-  reads_later = λ name. omega (arith, first.reads_later name, later name);
-  writes_same = λ name. counts name ∙ first.writes_same name;
+-- only reads, after only reads
+pub only_reads_on : (before between now : FilesSeen) → OnlyReads before between → OnlyReads between now → OnlyReads before now
+only_reads_on before between now first next = record {
+  tells_same = next.tells_same ∙ first.tells_same;
+  held_same = λ name. next.held_same name ∙ first.held_same name;
+  reads_later = λ name. omega (arith, first.reads_later name, next.reads_later name);
+  writes_same = λ name. next.writes_same name ∙ first.writes_same name;
 }
 
 -- a front of the bytes, and the bytes that one read gives after it, are a front again

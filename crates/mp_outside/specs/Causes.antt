@@ -15,6 +15,6 @@ NoneFell before now = (name : List ℕ) → before name ≤ now name
 abbrev pub SameCounts : (List ℕ → ℕ) → (List ℕ → ℕ) → Type 0
 SameCounts before now = (name : List ℕ) → now name ≡ before name
 
--- a failure comes only where the count rose
-abbrev pub FailsByFault : {T : Type 0} → Result T OutFault → ℕ → ℕ → Type 0
-FailsByFault result before now = IsErrOf result Failed → Rose before now
+-- a call fails only for this cause; want of memory is no failure
+abbrev pub FailsOnlyIf : {T : Type 0} → Result T OutFault → Type 0 → Type 0
+FailsOnlyIf result Cause = IsErrOf result Failed → Cause

@@ -1,9 +1,9 @@
 -- What calls do to the contents of files.
-use Rattle.std.specs.Prelude.{Bool, ◌≡◌, ◌≢◌, ◌⊎◌, ℕ, ◌-◌, ◌<◌, ◌≤◌, List, [], ◌++◌, length, take, drop, Option, Some, Result, Ok, Err, IfOk, OnOk, OnErr, IsErr, IfSome, MatchOption}
-use Rattle.mp_outside.specs.Causes.{NoneFell, SameCounts}
+use Rattle.std.specs.Prelude.{◌≡◌, ◌≢◌, ◌⊎◌, ℕ, ◌-◌, ◌<◌, ◌≤◌, List, [], ◌++◌, length, take, drop, Option, Some, Result, Ok, Err, IfOk, OnOk, OnErr, IsErr, IfSome, IsSomeAnd, MatchOption, Vec}
+use Rattle.std.specs.declared.alloc.Global.{Global}
+use Rattle.mp_outside.specs.declared.files.Failed.{Failed as ReadFault}
 use Rattle.mp_outside.specs.declared.files.OutFault.{OutFault}
 use Rattle.mp_outside.specs.declared.files.OutFault.TheVariants.{Failed, NoMemory}
-use Rattle.mp_outside.specs.declared.files.Failed.{Failed as ReadFailed}
 
 -- what is held under each name
 abbrev pub Held : Type 0
@@ -16,7 +16,7 @@ pub record ReadsFrom (bytes : List ℕ) (at count : ℕ) (buffer : List ℕ) : T
   pub some : 0 < length buffer → at < length bytes → 0 < count
 
 -- a name under which nothing is held can't be read
-abbrev pub ReadsAt : Option (List ℕ) → ℕ → Result ℕ ReadFailed → List ℕ → Type 0
+abbrev pub ReadsAt : Option (List ℕ) → ℕ → Result ℕ ReadFault → List ℕ → Type 0
 ReadsAt content at result buffer = MatchOption content (IsErr result) (λ bytes. IfOk result (λ count. ReadsFrom bytes at count buffer))
 
 -- all names hold what they held
@@ -47,13 +47,10 @@ Adds before now piece (Ok _) = now ≡ before ++ piece
 Adds before now piece (Err Failed) = (count : ℕ) × (count ≤ length piece) × (now ≡ before ++ take count piece)
 Adds before now piece (Err NoMemory) = now ≡ before
 
--- a call that only reads: it changes no contents, and no count of writes
-pub record OnlyReads {S : Type 0} (tells : S → Bool) (held : S → Held) (reads writes : S → List ℕ → ℕ) (before now : S) : Type 0 where
-  pub tells_same : tells now ≡ tells before
-  pub held_same : SameHeld (held before) (held now)
-  pub reads_later : NoneFell (reads before) (reads now)
-  pub writes_same : SameCounts (writes before) (writes now)
-
--- what was read of a file up to a limit: all of it, or a part of it that is longer than the limit
+-- what was read of a file up to a limit: all of it, or a front of it that is longer than the limit
 abbrev pub IsReadUpTo : ℕ → List ℕ → List ℕ → Type 0
 IsReadUpTo limit bytes got = (got ≡ take (length got) bytes) × ((got ≡ bytes) ⊎ (limit < length got))
+
+-- a file that is held was read up to a limit
+abbrev pub ReadsUpTo : ℕ → Option (List ℕ) → Result (Vec ℕ Global) OutFault → Type 0
+ReadsUpTo limit content result = IfOk result (λ got. IsSomeAnd content (λ bytes. IsReadUpTo limit bytes got.items))

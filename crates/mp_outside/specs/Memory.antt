@@ -1,9 +1,10 @@
 -- What files and sinks in memory hold, their counts of faults, and the calls that are to fail.
-use Rattle.std.specs.Prelude.{ℕ, List, Option, option_map, Result, IfSome}
+use Rattle.std.specs.Prelude.{ℕ, true, List, Option, option_map, Result, IfSome}
 use Rattle.std.specs.Option.{option_map_or}
 use Rattle.std.specs.BTreeMap.{get_by_text}
 use Rattle.mp_outside.specs.Calls.{CallPlan, no_call, FailsAsDue}
 use Rattle.mp_outside.specs.Contents.{Held}
+use Rattle.mp_outside.specs.Seen.{FilesSeen, SinkSeen}
 use Rattle.mp_outside.specs.declared.files.OutFault.{OutFault}
 use Rattle.mp_outside.specs.declared.memory.CallKind.{CallKind}
 use Rattle.mp_outside.specs.declared.memory.CallKind.TheVariants.{Read, Create, Append}
@@ -20,6 +21,9 @@ read_count m name = option_map_or (λ f. f.reads) (get_by_text m.files name) m.o
 
 abbrev pub write_count : MemFiles → List ℕ → ℕ
 write_count m name = option_map_or (λ f. f.writes) (get_by_text m.files name) m.other_writes
+
+abbrev pub files_seen : MemFiles → FilesSeen
+files_seen m = record { tells = true; held = content m; reads = read_count m; writes = write_count m }
 
 -- the calls of each kind
 pub record CallPlans : Type 0 where
@@ -49,6 +53,9 @@ sink_bytes s = s.bytes.items
 
 abbrev pub sink_faults : MemSink → ℕ
 sink_faults s = s.faults
+
+abbrev pub sink_seen : MemSink → SinkSeen
+sink_seen s = record { tells = true; written = sink_bytes s; faults = sink_faults s }
 
 abbrev pub sink_plan : MemSink → CallPlan
 sink_plan s = s.calls

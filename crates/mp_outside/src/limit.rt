@@ -1,7 +1,8 @@
 // Reading a file to its end, up to a limit.
-ghost use Rattle.std.specs.Prelude.{◌≡◌, ◌<◌, ◌≤◌, ◌^◌, ◌+◌, length, [], IfOk, IsTrue, IsSomeAnd};
-ghost use Rattle.mp_outside.specs.Causes.{FailsByFault};
-ghost use Rattle.mp_outside.specs.Contents.{OnlyReads, IsReadUpTo};
+ghost use Rattle.std.specs.Prelude.{◌≡◌, ◌<◌, ◌≤◌, ◌^◌, ◌+◌, length, [], IsTrue};
+ghost use Rattle.mp_outside.specs.Causes.{FailsOnlyIf};
+ghost use Rattle.mp_outside.specs.Contents.{ReadsUpTo};
+ghost use Rattle.mp_outside.specs.Seen.{OnlyReads, ReadFailed};
 
 use crate::files::{Files, OutFault};
 use std::alloc::Global;
@@ -19,9 +20,9 @@ pub fn read_to_limit<F: Files>(
     limit: u32,
 ) -> Result<Vec<u8>, OutFault>
     requires { limit ≤ 2 ^ 28 }
-    ensures bytes { IsTrue (F.tells files.old) → IfOk result (λ got. IsSomeAnd (F.held files.old name.now) (λ bytes. IsReadUpTo limit bytes got.items)) }
-    ensures cause { FailsByFault result (F.reads files.old name.now) (F.reads files.new name.now) }
-    ensures only { OnlyReads F.tells F.held F.reads F.writes files.old files.new }
+    ensures bytes { IsTrue (F.seen files.old).tells → ReadsUpTo limit ((F.seen files.old).held name.now) result }
+    ensures cause { FailsOnlyIf result (ReadFailed name.now (F.seen files.old) (F.seen files.new)) }
+    ensures only { OnlyReads (F.seen files.old) (F.seen files.new) }
 {
     let mut buf = vec![in alloc; 0; PIECE]?;
     read_pieces(alloc, files, name, limit, buf.as_mut_slice())
@@ -37,9 +38,9 @@ fn read_pieces<F: Files>(
 ) -> Result<Vec<u8>, OutFault>
     requires limit { limit ≤ 2 ^ 28 }
     requires room { 0 < length buf.old }
-    ensures bytes { IsTrue (F.tells files.old) → IfOk result (λ got. IsSomeAnd (F.held files.old name.now) (λ bytes. IsReadUpTo limit bytes got.items)) }
-    ensures cause { FailsByFault result (F.reads files.old name.now) (F.reads files.new name.now) }
-    ensures only { OnlyReads F.tells F.held F.reads F.writes files.old files.new }
+    ensures bytes { IsTrue (F.seen files.old).tells → ReadsUpTo limit ((F.seen files.old).held name.now) result }
+    ensures cause { FailsOnlyIf result (ReadFailed name.now (F.seen files.old) (F.seen files.new)) }
+    ensures only { OnlyReads (F.seen files.old) (F.seen files.new) }
 {
     let mut bytes = Vec::new(alloc);
     while bytes.len() <= limit as usize {

@@ -125,31 +125,24 @@ impl MemFiles {
 
 // Beside what all files promise, each method says which of its calls fail.
 impl Files for MemFiles {
-    ghost use Rattle.std.specs.Prelude.{◌^◌, ◌≤◌, ◌↔◌, ◌⊎◌, true, length, IsTrue, IfOk, IsErr, IsErrOf, IsSome, IsNone};
+    ghost use Rattle.std.specs.Prelude.{◌^◌, ◌≤◌, ◌↔◌, ◌⊎◌, length, IsTrue, IfOk, IsErr, IsErrOf, IsSome, IsNone};
     ghost use Rattle.mp_outside.specs.Calls.{due, counted};
-    ghost use Rattle.mp_outside.specs.Causes.{Rose, NoneFell, SameCounts, FailsByFault};
-    ghost use Rattle.mp_outside.specs.Contents.{ReadsAt, SameHeld, OnlyHeldAt, Creates, Appends};
-    ghost use Rattle.mp_outside.specs.Memory.{content, read_count, write_count, plans, with_plan, FailsAsDueAt};
+    ghost use Rattle.mp_outside.specs.Causes.{FailsOnlyIf};
+    ghost use Rattle.mp_outside.specs.Contents.{ReadsAt, Creates, Appends};
+    ghost use Rattle.mp_outside.specs.Seen.{OnlyReads, OnlyWrites, ReadFailed, WriteFailed};
+    ghost use Rattle.mp_outside.specs.Memory.{content, files_seen, plans, with_plan, FailsAsDueAt};
 
-    ghost tells = { λ _. true };
-
-    ghost held = { content };
-
-    ghost reads = { read_count };
-
-    ghost writes = { write_count };
+    ghost seen = { files_seen };
 
     #[tactic(auto, using(std::proofs::lemmas::Map::Text::text_keys))]
     fn read_at(&mut self, name: &str, at: u64, buf: &mut [u8]) -> Result<usize, Failed>
         requires { at ≤ 2 ^ 28 }
         ensures bound { IfOk result (λ count. count ≤ length buf.new) }
         ensures bytes { ReadsAt (content self.old name.now) at result buf.new }
-        ensures held { SameHeld (content self.old) (content self.new) }
         ensures fails { IsErr result ↔ (IsNone (content self.old name.now) ⊎ IsSome (due (plans self.old).reads)) }
         ensures plans { plans self.new ≡ with_plan CallKind.Read counted (plans self.old) }
-        ensures cause { OnErr result (Rose (read_count self.old name.now) (read_count self.new name.now)) }
-        ensures reads { NoneFell (read_count self.old) (read_count self.new) }
-        ensures writes { SameCounts (write_count self.old) (write_count self.new) }
+        ensures cause { OnErr result (ReadFailed name.now (files_seen self.old) (files_seen self.new)) }
+        ensures only { OnlyReads (files_seen self.old) (files_seen self.new) }
     {
         let due = self.read_calls.count_call();
         match self.files.get_mut(name) {
@@ -171,12 +164,10 @@ impl Files for MemFiles {
     #[tactic(auto, using(std::proofs::lemmas::Map::Text::text_keys))]
     fn create(&mut self, name: &str) -> Result<(), OutFault>
         ensures made { Creates (content self.old name.now) (content self.new name.now) result }
-        ensures others { OnlyHeldAt name.now (content self.old) (content self.new) }
         ensures fails { IsErrOf result OutFault.Failed ↔ IsSome (due (plans self.old).creates) }
         ensures plans { plans self.new ≡ with_plan CallKind.Create counted (plans self.old) }
-        ensures cause { FailsByFault result (write_count self.old name.now) (write_count self.new name.now) }
-        ensures writes { NoneFell (write_count self.old) (write_count self.new) }
-        ensures reads { SameCounts (read_count self.old) (read_count self.new) }
+        ensures cause { FailsOnlyIf result (WriteFailed name.now (files_seen self.old) (files_seen self.new)) }
+        ensures only { OnlyWrites name.now (files_seen self.old) (files_seen self.new) }
     {
         let due = self.create_calls.count_call();
         match self.files.get_mut(name) {
@@ -197,12 +188,10 @@ impl Files for MemFiles {
     fn append(&mut self, name: &str, piece: &[u8]) -> Result<(), OutFault>
         requires { IsSome (content self.old name.now) }
         ensures added { Appends (content self.old name.now) (content self.new name.now) piece.now result }
-        ensures others { OnlyHeldAt name.now (content self.old) (content self.new) }
         ensures fails { FailsAsDueAt (due (plans self.old).appends) (content self.old name.now) (content self.new name.now) piece.now result }
         ensures plans { plans self.new ≡ with_plan CallKind.Append counted (plans self.old) }
-        ensures cause { FailsByFault result (write_count self.old name.now) (write_count self.new name.now) }
-        ensures writes { NoneFell (write_count self.old) (write_count self.new) }
-        ensures reads { SameCounts (read_count self.old) (read_count self.new) }
+        ensures cause { FailsOnlyIf result (WriteFailed name.now (files_seen self.old) (files_seen self.new)) }
+        ensures only { OnlyWrites name.now (files_seen self.old) (files_seen self.new) }
     {
         let due = self.append_calls.count_call();
         let Some(file) = self.files.get_mut(name) else {

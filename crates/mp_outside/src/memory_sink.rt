@@ -54,23 +54,20 @@ impl MemSink {
 
 // Beside what all sinks promise, `write` says which of its calls fail.
 impl Sink for MemSink {
-    ghost use Rattle.std.specs.Prelude.{◌≤◌, true};
+    ghost use Rattle.std.specs.Prelude.{◌≤◌};
     ghost use Rattle.mp_outside.specs.Calls.{due, counted, FailsAsDue};
-    ghost use Rattle.mp_outside.specs.Causes.{FailsByFault};
+    ghost use Rattle.mp_outside.specs.Causes.{FailsOnlyIf};
     ghost use Rattle.mp_outside.specs.Contents.{Adds};
-    ghost use Rattle.mp_outside.specs.Memory.{sink_bytes, sink_faults, sink_plan};
+    ghost use Rattle.mp_outside.specs.Memory.{sink_bytes, sink_faults, sink_plan, sink_seen};
+    ghost use Rattle.mp_outside.specs.Seen.{SinkFailed};
 
-    ghost tells = { λ _. true };
-
-    ghost written = { sink_bytes };
-
-    ghost faults = { sink_faults };
+    ghost seen = { sink_seen };
 
     fn write(&mut self, piece: &[u8]) -> Result<(), OutFault>
         ensures added { Adds (sink_bytes self.old) (sink_bytes self.new) piece.now result }
         ensures fails { FailsAsDue (due (sink_plan self.old)) (sink_bytes self.old) (sink_bytes self.new) piece.now result }
         ensures plan { sink_plan self.new ≡ counted (sink_plan self.old) }
-        ensures cause { FailsByFault result (sink_faults self.old) (sink_faults self.new) }
+        ensures cause { FailsOnlyIf result (SinkFailed (sink_seen self.old) (sink_seen self.new)) }
         ensures later { sink_faults self.old ≤ sink_faults self.new }
     {
         match self.calls.count_call() {

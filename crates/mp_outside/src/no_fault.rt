@@ -56,16 +56,9 @@ impl NoFaultFiles {
 }
 
 impl Files for NoFaultFiles {
-    ghost use Rattle.std.specs.Prelude.{true};
-    ghost use Rattle.mp_outside.specs.NoFault.{content};
+    ghost use Rattle.mp_outside.specs.NoFault.{files_seen};
 
-    ghost tells = { λ _. true };
-
-    ghost held = { content };
-
-    ghost reads = { λ _ _. 0 };
-
-    ghost writes = { λ _ _. 0 };
+    ghost seen = { files_seen };
 
     fn read_at(&mut self, name: &str, at: u64, buf: &mut [u8]) -> Result<usize, Failed> {
         match self.files.get(name) {
@@ -117,14 +110,9 @@ impl NoFaultSink {
 }
 
 impl Sink for NoFaultSink {
-    ghost use Rattle.std.specs.Prelude.{true};
-    ghost use Rattle.mp_outside.specs.NoFault.{sink_bytes};
+    ghost use Rattle.mp_outside.specs.NoFault.{sink_seen};
 
-    ghost tells = { λ _. true };
-
-    ghost written = { sink_bytes };
-
-    ghost faults = { λ _. 0 };
+    ghost seen = { sink_seen };
 
     fn write(&mut self, piece: &[u8]) -> Result<(), OutFault> {
         self.bytes.extend_from_slice(piece)?;

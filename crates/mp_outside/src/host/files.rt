@@ -102,16 +102,9 @@ fn add_to_file(rt: &HostRuntime, name: &str, piece: &[u8]) -> io::Result<()> {
 }
 
 impl Files for HostFiles {
-    ghost use Rattle.std.specs.Prelude.{false, None};
-    ghost use Rattle.mp_outside.specs.Host.{read_count, write_count};
+    ghost use Rattle.mp_outside.specs.Host.{files_seen};
 
-    ghost tells = { λ _. false };
-
-    ghost held = { λ _ _. None };
-
-    ghost reads = { read_count };
-
-    ghost writes = { write_count };
+    ghost seen = { files_seen };
 
     fn read_at(&mut self, name: &str, at: u64, buf: &mut [u8]) -> Result<usize, Failed> {
         match self.read_some(name, at, buf) {

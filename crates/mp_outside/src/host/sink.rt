@@ -35,14 +35,9 @@ fn write_piece<W: Write + Drop>(stream: &mut W, piece: &[u8]) -> io::Result<()> 
 }
 
 impl<W: Write + Drop> Sink for HostSink<W> {
-    ghost use Rattle.std.specs.Prelude.{false, []};
-    ghost use Rattle.mp_outside.specs.Host.{sink_faults};
+    ghost use Rattle.mp_outside.specs.Host.{sink_seen};
 
-    ghost tells = { λ _. false };
-
-    ghost written = { λ _. [] };
-
-    ghost faults = { sink_faults };
+    ghost seen = { sink_seen };
 
     fn write(&mut self, piece: &[u8]) -> Result<(), OutFault> {
         match write_piece(&mut self.stream, piece) {

@@ -2,9 +2,10 @@
 ghost use Rattle.std.specs.Prelude.{◌≡◌, ◌≤◌, ◌↔◌, IsTrue, IsErrOf, IsNone, Some, None};
 ghost use Rattle.std.specs.BTreeMap.{get_by_text};
 ghost use Rattle.mp_outside.specs.Calls.{FailsAsDue};
-ghost use Rattle.mp_outside.specs.Causes.{NoneFell, SameCounts, FailsByFault};
-ghost use Rattle.mp_outside.specs.Contents.{OnlyHeldAt, Creates, Appends};
-ghost use Rattle.mp_outside.specs.Memory.{content, read_count, write_count, plans};
+ghost use Rattle.mp_outside.specs.Causes.{Rose, FailsOnlyIf};
+ghost use Rattle.mp_outside.specs.Contents.{Creates, Appends};
+ghost use Rattle.mp_outside.specs.Memory.{content, files_seen, plans};
+ghost use Rattle.mp_outside.specs.Seen.{OnlyWrites, WriteFailed};
 
 use super::{MemFile, MemFiles};
 use crate::files::OutFault;
@@ -16,10 +17,8 @@ pub fn create_new(files: &mut MemFiles, name: &str, fails: bool) -> Result<(), O
     ensures made { Creates None (content files.new name.now) result }
     ensures fails { IsErrOf result OutFault.Failed ↔ IsTrue fails }
     ensures plans { plans files.new ≡ plans files.old }
-    ensures others { OnlyHeldAt name.now (content files.old) (content files.new) }
-    ensures cause { FailsByFault result (write_count files.old name.now) (write_count files.new name.now) }
-    ensures writes { NoneFell (write_count files.old) (write_count files.new) }
-    ensures reads { SameCounts (read_count files.old) (read_count files.new) }
+    ensures cause { FailsOnlyIf result (WriteFailed name.now (files_seen files.old) (files_seen files.new)) }
+    ensures only { OnlyWrites name.now (files_seen files.old) (files_seen files.new) }
 {
     if fails {
         files.other_writes = files.other_writes.saturating_add(1);
@@ -39,7 +38,7 @@ pub fn create_new(files: &mut MemFiles, name: &str, fails: bool) -> Result<(), O
 pub fn append_to(file: &mut MemFile, piece: &[u8], added: Option<u32>) -> Result<(), OutFault>
     ensures added { Appends (Some file.old.bytes.items) (Some file.new.bytes.items) piece.now result }
     ensures fails { FailsAsDue added file.old.bytes.items file.new.bytes.items piece.now result }
-    ensures cause { FailsByFault result file.old.writes file.new.writes }
+    ensures cause { FailsOnlyIf result (Rose file.old.writes file.new.writes) }
     ensures later { file.old.writes ≤ file.new.writes }
     ensures reads { file.new.reads ≡ file.old.reads }
 {
