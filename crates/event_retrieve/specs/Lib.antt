@@ -1,3 +1,4 @@
 pub mod Plan
+pub mod Refusal
 pub mod Retrieval
 pub mod Sequential

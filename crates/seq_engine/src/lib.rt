@@ -4,6 +4,7 @@
 
 mod kept;
 mod level;
+mod plan;
 mod positions;
 mod realisation;
 #[cfg(test)]
@@ -14,6 +15,7 @@ mod setup;
 mod tests;
 
 pub use level::run_level;
+pub use plan::plan_level;
 pub use positions::check_positions;
 pub use realisation::run_realisation;
 pub use runner::{LevelRunner, OneThread, StoreKind};

@@ -1,21 +1,23 @@
 // A realisation.
-ghost use Rattle.std.specs.Prelude.{◌≡◌, ◌⊎◌, ◌<◌, ◌≤◌, All, IfErr, IfOk, IsSome, None, OnOk, Some, length, map};
+ghost use Rattle.std.specs.Prelude.{◌≡◌, ◌⊎◌, ◌≤◌, All, IfErr, IfOk, IsSome, None, OnOk, Some, length, map};
 ghost use Rattle.std.specs.List.{range_with_len};
 ghost use Rattle.mp_base.specs.Grid.{IsBelow, cells_of, field};
 ghost use Rattle.hard_data.specs.Start.{datum_or_value, values_after};
+ghost use Rattle.multigrid.specs.Levels.{IsLevel};
 ghost use Rattle.event_retrieve.specs.Plan.{KnowsNodes};
 ghost use Rattle.event_retrieve.specs.Sequential.{sequential};
+ghost use Rattle.seq_engine.specs.Errors.{IsRefusalAt};
 ghost use Rattle.seq_engine.specs.Runs.{RanThrough};
 ghost use Rattle.seq_engine.specs.Setup.{IsSetup};
 ghost use Rattle.seq_engine.specs.Realisation.{level_plan, level_positions, plan_over, plans_of, realised, short_level, source_of, too_few};
 
+use crate::plan::plan_level;
 use crate::runner::LevelRunner;
 use crate::setup::{RunError, Setup, fault_at};
 use event_retrieve::LevelPlan;
 use hard_data::{Start, relocate, take_away};
 use mp_base::{CellId, Grid};
 use multigrid::stretched;
-use path_stream::{Words, stream_of};
 use std::alloc::Global;
 use ti_scan::Eroded;
 
@@ -68,52 +70,42 @@ fn simulate_level<R: LevelRunner>(
     ensures ran { OnOk result (R.ran runner.old (plan_over setup.now realisation level values.old) runner.new) }
     ensures ready { R.ready runner.new }
     ensures enough { OnOk result (setup.now.min_replicates ≤ length (level_positions setup.now level)) }
-    ensures few { IfErr result (λ e. (e ≡ RunError.NoMemory) ⊎ ((e ≡ RunError.TooFewPositions level (length (level_positions setup.now level)) setup.now.min_replicates) × (length (level_positions setup.now level) < setup.now.min_replicates))) }
+    ensures few { IfErr result
+        (IsRefusalAt level (length (level_positions setup.now level)) setup.now.min_replicates) }
 {
     let template = stretched(alloc, &setup.template, level)?;
     let eroded = Eroded::new(alloc, &setup.image, &template, setup.cats)?;
     let Start { grid, moves } = relocate(alloc, &setup.hard, values, level)?;
-    let plan = plan_from(alloc, setup, &eroded, realisation, level, grid)?;
+    let plan = plan_at(alloc, setup, realisation, level, grid, &eroded)?;
     let _ = plan.level();
     let log = runner.run(alloc, &plan)?;
     take_away(moves, &log, values);
     Ok(())
 }
 
-// The plan of a level, over what is known at its start.
-fn plan_from<'a>(
+// The plan of a level, or why there is no realisation.
+fn plan_at<'a>(
     alloc: Global,
     setup: &Setup,
-    eroded: &'a Eroded<'a>,
     realisation: u32,
     level: u8,
     start: Grid,
+    eroded: &'a Eroded<'a>,
 ) -> Result<LevelPlan<'a>, RunError>
     requires setup { IsSetup setup.now }
-    requires source { eroded.now ≡ source_of setup.now level }
-    requires some { 1 ≤ level }
-    requires most { level ≤ setup.now.levels }
+    requires level { IsLevel level }
     requires nodes { KnowsNodes start level }
     requires below { All (IsBelow setup.now.cats) start.cells }
+    requires source { eroded.now ≡ source_of setup.now level }
     ensures plan { IfOk result (λ plan. plan ≡ level_plan setup.now realisation level start) }
-    ensures enough { IfOk result (λ _. setup.now.min_replicates ≤ length (level_positions setup.now level)) }
-    ensures few { IfErr result (λ e. (e ≡ RunError.NoMemory) ⊎ ((e ≡ RunError.TooFewPositions level (length (level_positions setup.now level)) setup.now.min_replicates) × (length (level_positions setup.now level) < setup.now.min_replicates))) }
+    ensures enough { IfOk result
+        (λ _. setup.now.min_replicates ≤ length (level_positions setup.now level)) }
+    ensures few { IfErr result
+        (IsRefusalAt level (length (level_positions setup.now level)) setup.now.min_replicates) }
 {
-    let words = Words::new(setup.seed, stream_of(realisation, level));
-    match LevelPlan::new(
-        alloc,
-        level,
-        eroded,
-        start,
-        words,
-        setup.target.copy(),
-        setup.servo,
-        setup.min_replicates,
-        setup.max_data,
-    ) {
-        Ok(plan) => Ok(plan),
-        Err(error) => Err(fault_at(level, error)),
-    }
+    plan_level(alloc, setup, realisation, level, start, eroded).map_err(|error| fault_at(
+        level, error,
+    ))
 }
 
 // The values with each hard datum in its own cell.

@@ -8,12 +8,12 @@ use Rattle.event_retrieve.specs.Sequential.{sequential}
 use Rattle.seq_engine.proofs.Cells.{below_after, log-inside}
 use Rattle.seq_engine.proofs.realisation.simulate_level.Goals as goal
 
-pub plan_from-requires-clause-nodes : goal.plan_from-requires-clause-nodes
-plan_from-requires-clause-nodes g c =
+pub plan_at-requires-clause-nodes : goal.plan_at-requires-clause-nodes
+plan_at-requires-clause-nodes g c =
     subst (λ (f : Field). KnowsNodes f c.args.level) (sym c.in_ok-grid.ensures.grid) (start-nodes c.args.setup.now.hard c.args.values.now c.args.level)
 
-pub plan_from-requires-clause-below : goal.plan_from-requires-clause-below
-plan_from-requires-clause-below g c =
+pub plan_at-requires-clause-below : goal.plan_at-requires-clause-below
+plan_at-requires-clause-below g c =
     let s = c.args.setup.now in
     subst (λ (f : Field). All (IsBelow s.cats) f.cells) (sym c.in_ok-grid.ensures.grid) (start-below s.hard c.args.values.now c.args.level s.cats c.requires.setup.setup.hard_below c.requires.below)
 
