@@ -30,10 +30,13 @@ points_line rows used skipped = codes "points " ++ (decimal rows ++ (codes " use
 abbrev pub target_line : List ℕ → List ℕ
 target_line parts = codes "target" ++ (spaced parts ++ codes "\n")
 
--- the nodes and the eroded positions of a level
+-- a level with its numbers of nodes and of eroded positions
+abbrev pub numbers_line : ℕ → ℕ → ℕ → List ℕ
+numbers_line level nodes positions = codes "level " ++ (decimal level ++ (codes " nodes " ++ (decimal nodes ++ (codes " positions " ++ (decimal positions ++ codes "\n")))))
+
+-- the same of a level of a grid
 abbrev pub level_line : Sides → ℕ × ℕ → List ℕ
-level_line sides level =
-    codes "level " ++ (decimal level.0 ++ (codes " nodes " ++ (decimal (length (nodes_of sides level.0)) ++ (codes " positions " ++ (decimal level.1 ++ codes "\n")))))
+level_line sides level = numbers_line level.0 (length (nodes_of sides level.0)) level.1
 
 -- the line of each level, from the coarsest to the finest: the positions are by level, the finest first
 unfoldable pub level_lines : Sides → List ℕ → List ℕ

@@ -2,7 +2,7 @@
 ghost use Rattle.std.specs.Prelude.{◌≡◌, ◌++◌, ◌≤◌, IfOk, OnErr, OnOk, codes, length, string_bytes};
 ghost use Rattle.std.specs.Fmt.{decimal, signed_decimal};
 ghost use Rattle.multigrid.specs.Levels.{IsLevel};
-ghost use Rattle.realisation_out.specs.Report.{categories_line, grid_line, level_line as line_of_level, level_lines, points_line as line_of_points, realisation_line as line_of_realisation, realisation_lines, spaced, spaced_codes, target_line};
+ghost use Rattle.realisation_out.specs.Report.{categories_line, grid_line, level_line as line_of_level, level_lines, numbers_line, points_line as line_of_points, realisation_line as line_of_realisation, realisation_lines, spaced, spaced_codes, target_line};
 
 use mp_base::{Counts, NoMemory, Shape, push_whole};
 use multigrid::node_count;
@@ -66,7 +66,7 @@ fn put_level(to: &mut Vec<u8>, shape: Shape, level: u8, positions: u32) -> Resul
 }
 
 fn level_line(alloc: Global, level: u8, nodes: u32, positions: u32) -> Result<String, AllocError>
-    ensures { IfOk result (λ line. string_bytes line ≡ codes "level " ++ (decimal level ++ (codes " nodes " ++ (decimal nodes ++ (codes " positions " ++ (decimal positions ++ codes "\n")))))) }
+    ensures { IfOk result (λ line. string_bytes line ≡ numbers_line level nodes positions) }
 {
     format!(in alloc; "level {level} nodes {nodes} positions {positions}\n")
 }

@@ -1,0 +1,6 @@
+pub mod Places
+pub mod CodedLemmas
+pub mod Parts
+pub mod Fitting
+pub mod TextLemmas
+pub mod Scanning

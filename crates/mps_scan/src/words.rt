@@ -1,0 +1,197 @@
+// The words of `scan` after the parameter file.
+ghost use Rattle.std.specs.Prelude.{◌≡◌, ◌==◌, ◌<◌, ◌≤◌, Some, None, IfNone, IfSome, true, if◌then◌else◌, length};
+ghost use Rattle.std.specs.List.{after_first, before_first, position, position_or_len};
+ghost use Rattle.std.specs.Str.Parse.{digits_value};
+ghost use Rattle.mp_base.specs.Number.{all_digits};
+ghost use Rattle.multigrid.specs.Levels.{IsLevel};
+ghost use Rattle.mps_scan.specs.Coded.{positions_rise};
+ghost use Rattle.mps_scan.specs.Words.{are_few_digits, code_of, data_in, datum_of, event_in, number_of, scan_words, up_to, with_part};
+
+use crate::coded::{CodedDatum, CodedEvent};
+
+// The greatest level and the greatest position of a template.
+const MAX_LEVEL: u8 = 8;
+
+const MAX_POSITION: u8 = 64;
+
+/// What the two words after the parameter file ask for: a level, counted from 1, and an event.
+#[derive(Drop)]
+pub struct ScanWords {
+    pub level: u8,
+    pub event: CodedEvent,
+}
+
+/// The level and the event that two words are, or nothing exactly where they are none. A level is
+/// one to four digits with a value from 1 to 8. An event is `none`, or data with single commas
+/// between: each a position of one or two digits from 1 to 64, a `=` and a code of one to nine
+/// digits, which may have a `-` in front. Positions rise.
+#[tactic(auto, unfolding(crate::specs::Words::scan_words))]
+pub fn read_scan_words(level: &[u8], event: &[u8]) -> Option<ScanWords>
+    ensures words { result ≡ scan_words level.now event.now }
+    ensures level { IfSome result (λ words. IsLevel words.level) }
+{
+    let Some(level) = number_up_to(level, 4, MAX_LEVEL) else {
+        return None;
+    };
+    let Some(event) = event_of(event) else {
+        return None;
+    };
+    Some(ScanWords { level, event })
+}
+
+fn event_of(word: &[u8]) -> Option<CodedEvent>
+    ensures { result ≡ event_in word.now }
+{
+    if word == b"none".as_slice() {
+        Some(CodedEvent::empty())
+    } else {
+        data_of(word)
+    }
+}
+
+// The data between the commas of a word.
+fn data_of(word: &[u8]) -> Option<CodedEvent>
+    ensures { result ≡ data_in word.now }
+{
+    let mut event = CodedEvent::empty();
+    let mut rest = word;
+    while let Some((part, more)) = cut(rest, b',') {
+        if !push_part(&mut event, part) {
+            return None;
+        }
+        rest = more;
+    }
+    if push_part(&mut event, rest) {
+        Some(event)
+    } else {
+        None
+    }
+}
+
+// What stands before and behind the first such byte, or nothing where there is none.
+fn cut(text: &[u8], at: u8) -> Option<(&[u8], &[u8])>
+    ensures none { IfNone result (position_or_len (λ b. b == at) text.now ≡ length text.now) }
+    ensures some { IfSome result (λ _. position_or_len (λ b. b == at) text.now < length text.now) }
+    ensures before { IfSome result (λ parts. parts.0.now ≡ before_first (λ b. b == at) text.now) }
+    ensures behind { IfSome result (λ parts. parts.1.now ≡ after_first (λ b. b == at) text.now) }
+{
+    let Some(place) = place_of(text, at) else {
+        return None;
+    };
+    Some((&text[..place], &text[place + 1..]))
+}
+
+// The place of the first such byte.
+fn place_of(text: &[u8], wanted: u8) -> Option<usize>
+    ensures { result ≡ position (λ b. b == wanted) text.now }
+{
+    text.iter().position(|byte| *byte == wanted)
+}
+
+// Adds the datum that a text is, where it is one at a position beyond all others, and says whether
+// it did.
+fn push_part(event: &mut CodedEvent, text: &[u8]) -> bool
+    ensures part { with_part event.old text.now ≡ (if result then Some event.new else None) }
+    ensures rise { positions_rise 1 event.new ≡ true }
+{
+    let next = event.next_position();
+    let Some(datum) = datum_of(text) else {
+        return false;
+    };
+    if datum.position < next {
+        return false;
+    }
+    event.push(datum);
+    true
+}
+
+#[tactic(auto, unfolding(crate::specs::Words::datum_of))]
+fn datum_of(text: &[u8]) -> Option<CodedDatum>
+    ensures value { result ≡ datum_of text.now }
+    ensures few { IfSome result (λ datum. datum.position ≤ 64) }
+{
+    let Some((position, code)) = cut(text, b'=') else {
+        return None;
+    };
+    let Some(position) = number_up_to(position, 2, MAX_POSITION) else {
+        return None;
+    };
+    let Some(code) = code_of(code) else {
+        return None;
+    };
+    Some(CodedDatum { position, code })
+}
+
+#[tactic(auto, unfolding(crate::specs::Words::code_of))]
+fn code_of(text: &[u8]) -> Option<i32>
+    ensures { result ≡ code_of text.now }
+{
+    match text {
+        [b'-', digits @ ..] => match number(digits, 9) {
+            Some(size) => Some(-(size as i32)),
+            None => None,
+        },
+        _ => match number(text, 9) {
+            Some(size) => Some(size as i32),
+            None => None,
+        },
+    }
+}
+
+// The number from 1 to `last` that one to `most` digits write.
+fn number_up_to(text: &[u8], most: usize, last: u8) -> Option<u8>
+    requires { most ≤ 9 }
+    ensures value { result ≡ up_to last (number_of most text.now) }
+    ensures some { IfSome result (λ number. 1 ≤ number) }
+    ensures few { IfSome result (λ number. number ≤ last) }
+{
+    let Some(number) = number(text, most) else {
+        return None;
+    };
+    if 1 <= number && number <= u32::from(last) {
+        Some(number as u8)
+    } else {
+        None
+    }
+}
+
+// The number that one to `most` digits write.
+#[tactic(auto, unfolding(crate::specs::Words::number_of))]
+fn number(text: &[u8], most: usize) -> Option<u32>
+    requires { most ≤ 9 }
+    ensures value { result ≡ number_of most text.now }
+    ensures few { IfSome result (λ number. number ≤ 999999999) }
+{
+    if are_few_digits(text, most) {
+        Some(digits_value(text))
+    } else {
+        None
+    }
+}
+
+fn are_few_digits(text: &[u8], most: usize) -> bool
+    ensures { result ≡ are_few_digits most text.now }
+{
+    are_digits(text) && 1 <= text.len() && text.len() <= most
+}
+
+// Whether all bytes are digits.
+fn are_digits(text: &[u8]) -> bool
+    ensures { result ≡ all_digits text.now }
+{
+    text.iter().all(|byte| byte.is_ascii_digit())
+}
+
+// What at most nine digits are worth.
+fn digits_value(digits: &[u8]) -> u32
+    requires digits { all_digits digits.now ≡ true }
+    requires few { length digits.now ≤ 9 }
+    ensures value { result ≡ digits_value 10 digits.now }
+    ensures few { result ≤ 999999999 }
+{
+    let mut value = 0;
+    for digit in digits {
+        value = value * 10 + u32::from(*digit - b'0');
+    }
+    value
+}
