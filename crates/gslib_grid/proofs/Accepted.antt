@@ -11,8 +11,10 @@ use Rattle.std.proofs.lemmas.List.Quantifiers.{position-Some}
 use Rattle.std.proofs.lemmas.List.Elements.{All-cons}
 use Rattle.mp_base.specs.declared.codes.Codes.{Codes}
 use Rattle.mp_base.specs.Grid.{IsBelow}
-use Rattle.gslib_grid.specs.Lines.{lines_of, text_of, fields_of}
-use Rattle.gslib_grid.specs.Table.{Front, Added, Nothing, Count, OneRow, added_to, category_of, checked_count, count_in, ended, first_fault, front_of, is_row, is_too_long, judged, judged_row, numbered_fields, numbers_in, result_map, row_from, row_in, rows_in, table_of, variables_in, wanted_of}
+use Rattle.mp_text.specs.Lines.{lines_of, text_of}
+use Rattle.mp_text.specs.Fields.{fields_of}
+use Rattle.gslib_grid.specs.Table.{Front, Added, Nothing, Count, OneRow, category_of, checked_count, count_in, ended, first_fault, front_of, is_row, is_too_long, judged, judged_row, numbered_fields, numbers_in, result_map, row_from, row_in, rows_in, table_of, variables_in, wanted_of}
+use Rattle.gslib_grid.specs.Steps.{added_to}
 use Rattle.gslib_grid.specs.declared.want.Want.{Want}
 use Rattle.gslib_grid.specs.declared.want.Want.TheVariants.{Image}
 use Rattle.gslib_grid.specs.declared.want.Wanted.{Wanted}

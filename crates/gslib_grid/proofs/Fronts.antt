@@ -11,8 +11,10 @@ use Rattle.std.proofs.lemmas.List.Sums.{sum_by_push}
 use Rattle.std.proofs.lemmas.Bool.{false≢true, cases_lt, le-leb, leb-true, eqb-true}
 use Rattle.std.proofs.lemmas.Bool.Decides.{nat_tests}
 use Rattle.mp_base.specs.declared.codes.Codes.{Codes}
-use Rattle.gslib_grid.specs.Lines.{lines_of, text_of, fields_of}
-use Rattle.gslib_grid.specs.Table.{Front, Added, Nothing, Count, OneRow, added_to, checked_category, checked_count, checked_numbers, count_in, first_fault, front_of, is_row, is_too_long, judged, judged_row, numbered_fields, numbers_in, category_of, result_map, row_in, row_from, rows_in, variables_in, with_line, has_columns, table_of, ended, wanted_of, Tells}
+use Rattle.mp_text.specs.Lines.{lines_of, text_of}
+use Rattle.mp_text.specs.Fields.{fields_of}
+use Rattle.gslib_grid.specs.Table.{Front, Added, Nothing, Count, OneRow, checked_category, checked_count, checked_numbers, count_in, first_fault, front_of, is_row, is_too_long, judged, judged_row, numbered_fields, numbers_in, category_of, result_map, row_in, row_from, rows_in, variables_in, has_columns, table_of, ended, wanted_of, Tells}
+use Rattle.gslib_grid.specs.Steps.{added_to, with_line}
 use Rattle.gslib_grid.specs.declared.want.Want.{Want}
 use Rattle.gslib_grid.specs.declared.want.Wanted.{Wanted}
 use Rattle.gslib_grid.specs.declared.number.Numbers.{Numbers}

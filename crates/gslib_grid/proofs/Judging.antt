@@ -1,8 +1,10 @@
 -- What the next line gives, by the tests that it passes.
 use Rattle.std.proofs.Common.{◌≡◌, ℕ, ◌+◌, Bool, true, false, cond, eqb, List, Result, Ok, Err, ap, sym, ◌∙◌}
 use Rattle.mp_base.specs.declared.codes.Codes.{Codes}
-use Rattle.gslib_grid.specs.Lines.{text_of, fields_of}
-use Rattle.gslib_grid.specs.Table.{Front, Added, Nothing, Count, OneRow, added_to, checked_count, count_in, is_row, is_too_long, judged, judged_row, result_map, with_line}
+use Rattle.mp_text.specs.Lines.{text_of}
+use Rattle.mp_text.specs.Fields.{fields_of}
+use Rattle.gslib_grid.specs.Table.{Front, Added, Nothing, Count, OneRow, checked_count, count_in, is_row, is_too_long, judged, judged_row, result_map}
+use Rattle.gslib_grid.specs.Steps.{added_to, with_line}
 use Rattle.gslib_grid.specs.declared.want.Wanted.{Wanted}
 use Rattle.gslib_grid.specs.declared.row.Row.{Row}
 use Rattle.gslib_grid.specs.declared.fault.TableFault.{TableFault}

@@ -1,4 +1,5 @@
-pub mod Lines
-pub mod Rows
+-- What is promised of tables.
 pub mod Table
-pub mod LongFiles
+pub mod Rows
+-- How the program takes a table line by line.
+pub mod Steps

@@ -1,14 +1,13 @@
 -- What a table is, the faults that its lines may have, and the rows that it gives.
-use Rattle.std.specs.Prelude.{◌≡◌, ◌≤◌, ℕ, ◌+◌, ◌-◌, ◌^◌, Bool, ◌&&◌, ◌||◌, ◌==◌, nat_lt, nat_le, List, [], ◌∷◌, ◌++◌, length, drop, map, filter, sum_by, slice_get, slice_index, ℤ, pos, negsuc, All, Option, Some, None, Result, Ok, Err, if◌then◌else◌, option_map, option_and_then, unwrap_or}
+use Rattle.std.specs.Prelude.{◌≡◌, ℕ, ◌+◌, ◌-◌, ◌^◌, Bool, ◌&&◌, ◌||◌, ◌==◌, nat_lt, nat_le, List, [], ◌∷◌, ◌++◌, length, drop, map, filter, sum_by, slice_get, slice_index, ℤ, Option, Some, None, Result, Ok, Err, if◌then◌else◌, option_map, option_and_then, unwrap_or}
 use Rattle.std.specs.Option.{option_or, option_map_or}
 use Rattle.std.specs.Result.{result_ok, result_err}
 use Rattle.std.specs.List.{position, filter_map, enumerate_from}
 use Rattle.std.specs.Ordering.{int_eq}
-use Rattle.bstr.specs.Records.{trim_record}
-use Rattle.mp_base.specs.Number.{whole_of, micro_of, all_digits}
-use Rattle.mp_base.specs.Grid.{IsBelow}
+use Rattle.mp_base.specs.Number.{whole_of, micro_of, short_number}
 use Rattle.mp_base.specs.declared.codes.Codes.{Codes}
-use Rattle.gslib_grid.specs.Lines.{lines_of, text_of, fields_of}
+use Rattle.mp_text.specs.Lines.{lines_of, text_of, without_line_feed}
+use Rattle.mp_text.specs.Fields.{fields_of}
 use Rattle.gslib_grid.specs.declared.want.Want.{Want}
 use Rattle.gslib_grid.specs.declared.want.Want.TheVariants.{Image, Points}
 use Rattle.gslib_grid.specs.declared.want.Wanted.{Wanted}
@@ -45,17 +44,12 @@ wanted_of (Points columns) =
 -- The number of variables.
 
 -- a number of variables is from 1 to 64
-abbrev pub as_count : ℤ → Option ℕ
-as_count (pos n) = if nat_le 1 n && nat_le n 64 then Some n else None
-as_count (negsuc n) = None
+abbrev pub as_count : ℕ → Option ℕ
+as_count n = if nat_le 1 n && nat_le n 64 then Some n else None
 
--- what one to nine digits tell
-abbrev pub count_of : List ℕ → Option ℕ
-count_of field = if nat_le (length field) 9 && all_digits field then result_ok (whole_of field) >>= as_count else None
-
--- what the second line tells by its first field
+-- what the second line tells by its first field, which is one to nine digits
 unfoldable pub count_in : List (List ℕ) → Option ℕ
-count_in fields = slice_get fields 0 >>= count_of
+count_in fields = slice_get fields 0 >>= λ field. short_number 9 field >>= as_count
 
 -- each wanted column is there
 abbrev pub has_columns : Wanted → ℕ → Bool
@@ -124,7 +118,7 @@ judged_row wanted codes front fields =
 
 -- it has more than 65,536 bytes before its line feed, or a byte at a place of 2 ^ 28 or more
 abbrev pub is_too_long : Front → List ℕ → Bool
-is_too_long front line = nat_lt 65536 (length (trim_record 10 line)) || nat_lt (2 ^ 28) (front.bytes + length line)
+is_too_long front line = nat_lt 65536 (length (without_line_feed line)) || nat_lt (2 ^ 28) (front.bytes + length line)
 
 -- it stands behind the names, and has a field
 abbrev pub is_row : Front → List (List ℕ) → Bool
@@ -195,21 +189,3 @@ Tells (errors.Fault fault) told = told ≡ Err fault
 abbrev pub Gives : {X : Type 0} → Result X TableError → Result X TableFault → Type 0
 Gives (Ok x) told = told ≡ Ok x
 Gives (Err error) told = Tells error told
-
--- a front with one line more
-abbrev pub added_to : Front → List ℕ → Added → Front
-added_to front line Nothing = record front { lines = front.lines + 1; bytes = front.bytes + length line }
-added_to front line (Count count) = record front { lines = front.lines + 1; bytes = front.bytes + length line; variables = count }
-added_to front line (OneRow row) = record front { lines = front.lines + 1; bytes = front.bytes + length line; rows = front.rows ++ row ∷ [] }
-
--- the front behind the next line, or that line's first fault
-abbrev pub with_line : Wanted → Codes → Front → List ℕ → Result Front TableFault
-with_line wanted codes front line = result_map (added_to front line) (judged wanted codes front line)
-
--- what the program keeps of a front
-pub record IsFront (front : Front) : Type 0 where
-  pub lines : front.lines ≤ front.bytes
-  pub rows : length front.rows ≤ front.bytes
-  pub bytes : front.bytes ≤ 2 ^ 28
-  pub variables : front.variables ≤ 64
-  pub cats : All (λ row. IsBelow 8 row.cat) front.rows

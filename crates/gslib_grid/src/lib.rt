@@ -3,9 +3,7 @@
 #![tactic(auto)]
 
 mod fault;
-mod fields;
 mod image;
-mod line;
 mod number;
 mod progress;
 mod read;

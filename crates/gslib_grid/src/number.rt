@@ -2,20 +2,20 @@
 ghost use Rattle.std.specs.Prelude.{◌≡◌, ◌≤◌, ◌<◌, IfSome, length};
 ghost use Rattle.std.specs.List.{position};
 ghost use Rattle.std.specs.Ordering.{int_eq};
-ghost use Rattle.gslib_grid.specs.Lines.{fields_of};
+ghost use Rattle.mp_text.specs.Fields.{fields_of};
 ghost use Rattle.gslib_grid.specs.Table.{coordinate_in, code_in, category_of, count_in};
 ghost use Rattle.std.specs.Result.{result_ok};
-ghost use Rattle.mp_base.specs.Number.{all_digits, whole_of};
+ghost use Rattle.mp_base.specs.Number.{whole_of};
 ghost use Rattle.mp_base.specs.Grid.{IsBelow};
 
-use crate::fields::field_at;
 use crate::want::Wanted;
-use mp_base::{Cat, Codes, read_micro, read_whole};
+use mp_base::{Cat, Codes, read_micro, read_whole, short_number};
+use mp_text::field_at;
 
 // The most digits of the number of variables, and the most variables.
 const MAX_DIGITS: usize = 9;
 
-const MAX_VARIABLES: i32 = 64;
+const MAX_VARIABLES: u128 = 64;
 
 /// The wanted numbers of a row: the coordinates that are read, and the category's code.
 #[derive(Clone, Copy, Debug, PartialEq, Eq)]
@@ -116,18 +116,8 @@ pub fn variables(text: &[u8]) -> Option<u32>
     ensures few { IfSome result (λ v. v ≤ 64) }
 {
     let field = field_at(text, 1)?;
-    if field.len() > MAX_DIGITS || !all_digits(field) {
-        return None;
-    }
-    match read_whole(field) {
-        Ok(count) if 1 <= count && count <= MAX_VARIABLES => Some(count as u32),
+    match short_number(field, MAX_DIGITS) {
+        Some(count) if 1 <= count && count <= MAX_VARIABLES => Some(count as u32),
         _ => None,
     }
-}
-
-// Whether all bytes are digits.
-fn all_digits(text: &[u8]) -> bool
-    ensures { result ≡ all_digits text.now }
-{
-    text.iter().all(|byte| byte.is_ascii_digit())
 }

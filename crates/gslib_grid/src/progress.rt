@@ -1,16 +1,15 @@
 // What was read of a table, line by line.
 ghost use Rattle.std.specs.Prelude.{◌≡◌, ◌≤◌, ◌<◌, ◌+◌, ◌^◌, length, [], IfOk, IfErr, OnOk, OnErr};
-ghost use Rattle.gslib_grid.specs.Lines.{fields_of};
+ghost use Rattle.mp_text.specs.Fields.{fields_of};
 ghost use Rattle.mp_base.specs.Grid.{IsBelow};
 ghost use Rattle.gslib_grid.specs.Table.{checked_count, checked_numbers, count_in, has_columns};
 
 use crate::fault::{TableError, TableFault};
-use crate::fields::has_fields;
-use crate::line::{text, without_line_feed};
 use crate::number::{Numbers, category, variables};
 use crate::row::{Row, Rows, Table};
 use crate::want::Wanted;
 use mp_base::Codes;
+use mp_text::{has_fields, line_text, without_line_feed};
 use std::marker::Model;
 use std::slice;
 
@@ -30,7 +29,8 @@ pub struct Progress {
 }
 
 impl Model for Progress {
-    ghost use Rattle.gslib_grid.specs.Table.{Front, IsFront};
+    ghost use Rattle.gslib_grid.specs.Table.{Front};
+    ghost use Rattle.gslib_grid.specs.Steps.{IsFront};
 
     ghost Value = { Front };
 
@@ -40,7 +40,8 @@ impl Model for Progress {
 }
 
 impl Progress {
-    ghost use Rattle.gslib_grid.specs.Table.{Tells, Count, OneRow, added_to, ended, is_row, is_too_long, judged_row, with_line};
+    ghost use Rattle.gslib_grid.specs.Table.{Tells, Count, OneRow, ended, is_row, is_too_long, judged_row};
+    ghost use Rattle.gslib_grid.specs.Steps.{added_to, with_line};
 
     /// Nothing was read yet.
     pub fn new(rows: Vec<Row>) -> Progress
@@ -73,7 +74,7 @@ impl Progress {
                 line: self.lines + 1,
             }));
         }
-        let text = text(line);
+        let text = line_text(line);
         if self.lines == 1 {
             let count = count(wanted, text)?;
             self.pass(line, count);

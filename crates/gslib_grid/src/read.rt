@@ -3,11 +3,11 @@ ghost use Rattle.std.specs.Prelude.{◌≡◌, ◌≢◌, ◌≤◌, AllPairs, C
 ghost use Rattle.gslib_grid.specs.Table.{Gives, table_of, wanted_of};
 
 use crate::fault::TableError;
-use crate::line::next_line;
 use crate::progress::Progress;
 use crate::row::Table;
 use crate::want::{Want, Wanted};
 use mp_base::Codes;
+use mp_text::next_line;
 use std::alloc::Global;
 
 /// The table that a file's bytes are, or the first fault of its first line with a fault. What is
@@ -30,8 +30,7 @@ pub fn read_table(
     let room = (wanted.least as usize).min(bytes.len() / 2 + 1);
     let mut progress = Progress::new(Vec::with_capacity(alloc, room)?);
     let mut rest = bytes;
-    while !rest.is_empty() {
-        let (line, behind) = next_line(rest);
+    while let Some((line, behind)) = next_line(rest) {
         progress.take_line(&wanted, codes, line)?;
         rest = behind;
     }

@@ -2,7 +2,8 @@ pub mod Numbers
 pub mod Bytes
 pub mod Tallies
 pub mod Ranges
-pub mod Digits
-pub mod Sizes
-pub mod Values
-pub mod ReadBack
+pub mod Entries
+pub use Rattle.mp_number.proofs.Digits
+pub use Rattle.mp_number.proofs.Sizes
+pub use Rattle.mp_number.proofs.Values
+pub use Rattle.mp_number.proofs.ReadBack

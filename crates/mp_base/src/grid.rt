@@ -4,8 +4,8 @@ ghost use Rattle.mp_base.specs.Grid.{IsBelow, category_of};
 
 use crate::cell::{Cat, CellId};
 use crate::counts::Counts;
-use crate::memory::NoMemory;
 use crate::shape::Shape;
+use mp_number::NoMemory;
 use std::alloc::Global;
 use std::marker::Model;
 
@@ -88,7 +88,7 @@ fn byte_of(value: Option<Cat>) -> u8
 impl Grid {
     ghost use Rattle.std.specs.Prelude.{All, map, length};
     ghost use Rattle.mp_base.specs.Grid.{IsBelow, IsGrid, category_of, cells_of};
-    ghost use Rattle.mp_base.specs.Counts.{tally};
+    ghost use Rattle.mp_base.specs.Cells.{category_counts};
 
     /// The same grid once more.
     pub fn copy(&self, alloc: Global) -> Result<Grid, NoMemory>
@@ -115,7 +115,7 @@ impl Grid {
     pub fn counts(&self, cats: u8) -> Counts
         requires few { cats ≤ 8 }
         requires below { All (IsBelow cats) self.now.cells }
-        ensures { result ≡ tally (λ v. v) cats self.now.cells }
+        ensures { result ≡ category_counts cats self.now.cells }
     {
         let mut counts = Counts::zero(cats);
         for number in 0..self.shape().cells() {

@@ -1,4 +1,4 @@
-//! Shapes, cells, categories, counts and grids, and numbers as they are read and printed.
+//! Shapes, cells, categories, counts and grids. Numbers as text are passed on for the crates above.
 #![tactic(auto)]
 
 mod cell;
@@ -6,22 +6,15 @@ mod codes;
 mod counts;
 mod frame;
 mod grid;
-mod memory;
-mod number;
-mod scale;
 mod shape;
-mod spelling;
-mod text;
 
 pub use cell::{Cat, CellId, Entry, Vector};
 pub use codes::{CodeList, Codes};
 pub use counts::Counts;
 pub use frame::Frame;
 pub use grid::Grid;
-pub use memory::NoMemory;
-pub use number::{NumberFault, read_micro, read_whole};
+pub use mp_number::{
+    Micro, NoMemory, NumberFault, Printed, all_digits, push_behind_spaces, push_micro, push_spaced,
+    push_whole, read_micro, read_whole, short_number,
+};
 pub use shape::{BadShape, Shape};
-pub use text::{push_micro, push_whole};
-
-#[cfg(test)]
-mod tests;

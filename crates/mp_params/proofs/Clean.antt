@@ -11,11 +11,14 @@ use Rattle.mp_params.specs.declared.table.Key.{Key}
 use Rattle.mp_params.specs.Lines.{Entry, entries_of, entry_in, entry_of, given, is_setting, key_fault, line_fault, settings_of}
 use Rattle.mp_params.specs.Params.{ParamsValue}
 use Rattle.mp_params.specs.Printing.{ended_line, entries_for, entry_for, line_text, value_text}
-use Rattle.mp_params.specs.Table.{fits, form_of, key_name, key_of}
-use Rattle.mp_params.specs.Text.{lines_of}
+use Rattle.mp_values.specs.Forms.{fits}
+use Rattle.mp_params.specs.Table.{form_of, key_name, key_of}
+use Rattle.mp_text.specs.Lines.{line_texts, text_of}
+use Rattle.mp_text.proofs.LineLemmas.{lines_of_empty}
 use Rattle.mp_params.proofs.Faults.{filter_map_push, settings_ok}
 use Rattle.mp_params.proofs.Keys.{are_new, given_none, has_no, key_found, key_short, key_text}
-use Rattle.mp_params.proofs.Written.{IsEntry, IsValueText, entry_back, entry_of_line, line_behind, line_bytes, line_setting, not_skipped}
+use Rattle.mp_params.proofs.Written.{IsEntry, entry_back, entry_of_line, line_behind, line_bytes, line_setting, not_skipped}
+use Rattle.mp_values.proofs.ValueTexts.{IsValueText}
 
 -- a text that is a value of a key
 pub record IsGood (k : Key) (text : List ℕ) : Type 0 where
@@ -93,10 +96,10 @@ entries_few p [] = omega arith
 entries_few p (k ∷ ks) = omega (arith, few_more p ks k (value_text p k) refl, entries_few p ks)
 
 -- the lines of the text are the lines of the entries
-pub lines_back : (es : List Entry) → AllByRecursion IsEntry es → lines_of (flat_map ended_line es) ≡ map line_text es
-lines_back [] is = refl
+pub lines_back : (es : List Entry) → AllByRecursion IsEntry es → line_texts (flat_map ended_line es) ≡ map line_text es
+lines_back [] is = ap (map text_of) (lines_of_empty [] refl)
 lines_back (e ∷ es) is =
-    ap lines_of (append_assoc (line_text e) (10 ∷ []) (flat_map ended_line es)) ∙ line_behind (line_text e) (flat_map ended_line es) (line_bytes e is.0) ∙ ap (λ ls. line_text e ∷ ls) (lines_back es is.1)
+    ap line_texts (append_assoc (line_text e) (10 ∷ []) (flat_map ended_line es)) ∙ line_behind (line_text e) (flat_map ended_line es) (line_bytes e is.0) ∙ ap (λ ls. line_text e ∷ ls) (lines_back es is.1)
 
 -- and they are those entries
 pub entries_back : (es : List Entry) → AllByRecursion IsEntry es → entries_of (map line_text es) ≡ es

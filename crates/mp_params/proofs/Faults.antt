@@ -1,10 +1,13 @@
 -- The first of some faults, and the lines of a file one after another.
-use Rattle.std.proofs.Common.{◌≡◌, ℕ, zero, suc, ◌+◌, ◌<◌, List, [], ◌∷◌, ◌++◌, length, take, drop, get_or, Option, Some, None, Ok, Err, refl, ap, sym, ◌∙◌, arith}
+use Rattle.std.proofs.Common.{◌≡◌, ℕ, zero, suc, ◌+◌, ◌<◌, Bool, true, false, cond, List, [], ◌∷◌, ◌++◌, length, take, drop, get_or, Option, Some, None, Ok, Err, refl, ap, sym, ◌∙◌, arith}
 use Rattle.std.specs.List.{cons_option, filter_map, range_with_len, slice_get}
 use Rattle.std.specs.Option.{option_to_list}
 use Rattle.std.proofs.lemmas.List.{length-drop, drop_more, take_more}
 use Rattle.mp_params.specs.declared.fault.ParamsFault.{ParamsFault}
-use Rattle.mp_params.specs.Lines.{Entry, entries_of, entry_of, fault_at, line_fault, settings_of, unless}
+use Rattle.mp_text.specs.Fields.{is_skipped}
+use Rattle.mp_params.specs.declared.fault.ParamsFault.TheVariants.{BadLine}
+use Rattle.mp_params.specs.Lines.{Entry, entries_of, entry_in, entry_of, fault_at, is_setting, key_fault, line_fault, settings_of, unless}
+use Rattle.mp_params.specs.Table.{key_of}
 
 -- x is the element of xs behind n others, and ys are those behind it
 pub record IsNext {X : Type 0} (xs : List X) (n : ℕ) (x : X) (ys : List X) (d : X) : Type 0 where
@@ -79,3 +82,20 @@ unless_ok (Some f) x y is = cc
 pub unless_err : {X : Type 0} (o : Option ParamsFault) (x : X) (f : ParamsFault) → unless o x ≡ Err f → o ≡ Some f
 unless_err None x f is = cc
 unless_err (Some g) x f is = cc
+
+setting_is : (b : Bool) (e s : Entry) → cond b (Some e) None ≡ Some s → (b ≡ true) × (e ≡ s)
+setting_is true e s is = (refl, cc)
+setting_is false e s is = cc
+
+-- a line that isn't skipped and is a setting
+module _ (line : List ℕ) (s : Entry) (seen : is_skipped line ≡ false) (is : cond (is_setting line) (Some (entry_in line)) None ≡ Some s) where
+  pub fault_of_setting : (n : ℕ) (earlier : List Entry) → line_fault n earlier line ≡ key_fault n earlier s (key_of s.name)
+  unfolding line_fault
+  fault_of_setting n earlier =
+      let both = setting_is (is_setting line) (entry_in line) s is in
+      let judge : Entry → Option ParamsFault = λ e. key_fault n earlier e (key_of e.name) in
+      ap (λ b. cond b None (cond (is_setting line) (judge (entry_in line)) (Some (BadLine n)))) seen ∙ ap (λ b. cond b (judge (entry_in line)) (Some (BadLine n))) both.0 ∙ ap judge both.1
+
+  pub entry_of_setting : entry_of line ≡ Some s
+  unfolding entry_of
+  entry_of_setting = ap (λ b. cond b None (Some (entry_in line))) seen ∙ ap Some (setting_is (is_setting line) (entry_in line) s is).1

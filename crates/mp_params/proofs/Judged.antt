@@ -3,7 +3,7 @@ use Rattle.std.proofs.Common.{◌≡◌, true, false, cond, Ok, Err, ap, ◌∙�
 use Rattle.mp_params.specs.declared.fault.ParamsFault.TheVariants.{BadMissing, BadTargets}
 use Rattle.mp_params.specs.Params.{ParamsValue, targets_fit}
 use Rattle.mp_params.specs.Reading.{judged}
-use Rattle.mp_params.specs.Values.{is_code}
+use Rattle.mp_values.specs.Values.{is_code}
 
 pub bad_missing : (p : ParamsValue) → is_code p.missing p.categories ≡ true → judged p ≡ Err BadMissing
 bad_missing p is = ap (λ b. cond b (Err BadMissing) (cond (targets_fit p.targets p.categories) (Ok p) (Err BadTargets))) is

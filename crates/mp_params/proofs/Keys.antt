@@ -1,67 +1,16 @@
 -- The names of keys: what they look like, and that no two are the same.
-use Rattle.std.proofs.Common.{◌≡◌, ℕ, Bool, true, false, not, ◌&&◌, ◌||◌, List, [], ◌∷◌, ◌++◌, length, Option, Some, None, refl, ap, subst, sym, ◌∙◌, inl, inr}
+use Rattle.std.proofs.Common.{◌≡◌, ℕ, Bool, true, false, cond, not, ◌&&◌, ◌||◌, List, [], ◌∷◌, ◌++◌, length, Option, Some, None, refl, ap, subst, sym, ◌∙◌, inl, inr}
 use Rattle.std.specs.Prelude.{nat_le, option_map}
-use Rattle.std.specs.List.{cons_option, list_all, list_any}
+use Rattle.std.specs.List.{cons_option, find, list_all, list_any}
 use Rattle.std.specs.Str.{bytes_eq}
 use Rattle.std.proofs.lemmas.Bool.{and_parts, cases_Bool, not-true}
 use Rattle.std.proofs.lemmas.Slice.Eq.{bytes_eq-Decides}
 use Rattle.mp_params.specs.declared.table.Key.{Key}
 use Rattle.mp_params.specs.declared.table.Key.TheVariants.{Version, Image, ImageShape, ImageColumn, Categories, Missing, Grid, Origin, Size, Points, PointColumns, Radii, Template, MaxData, MinReplicates, Levels, Servo, Targets, Seed, Realisations, Store, Window, Output}
-use Rattle.mp_params.specs.declared.table.TheConstants.{KEYS}
 use Rattle.mp_params.specs.Lines.{Entry, given, is_key_text}
 use Rattle.mp_params.specs.Params.{ParamsValue}
 use Rattle.mp_params.specs.Printing.{entries_for, value_text}
-use Rattle.mp_params.specs.Table.{key_name, key_of}
-
-pub key_text : (k : Key) → is_key_text (key_name k) ≡ true
-key_text Version = refl
-key_text Image = refl
-key_text ImageShape = refl
-key_text ImageColumn = refl
-key_text Categories = refl
-key_text Missing = refl
-key_text Grid = refl
-key_text Origin = refl
-key_text Size = refl
-key_text Points = refl
-key_text PointColumns = refl
-key_text Radii = refl
-key_text Template = refl
-key_text MaxData = refl
-key_text MinReplicates = refl
-key_text Levels = refl
-key_text Servo = refl
-key_text Targets = refl
-key_text Seed = refl
-key_text Realisations = refl
-key_text Store = refl
-key_text Window = refl
-key_text Output = refl
-
-pub key_short : (k : Key) → nat_le (length (key_name k)) 14 ≡ true
-key_short Version = refl
-key_short Image = refl
-key_short ImageShape = refl
-key_short ImageColumn = refl
-key_short Categories = refl
-key_short Missing = refl
-key_short Grid = refl
-key_short Origin = refl
-key_short Size = refl
-key_short Points = refl
-key_short PointColumns = refl
-key_short Radii = refl
-key_short Template = refl
-key_short MaxData = refl
-key_short MinReplicates = refl
-key_short Levels = refl
-key_short Servo = refl
-key_short Targets = refl
-key_short Seed = refl
-key_short Realisations = refl
-key_short Store = refl
-key_short Window = refl
-key_short Output = refl
+use Rattle.mp_params.specs.Table.{key_name, key_of, keys}
 
 pub key_found : (k : Key) → key_of (key_name k) ≡ Some k
 key_found Version = refl
@@ -88,6 +37,28 @@ key_found Store = refl
 key_found Window = refl
 key_found Output = refl
 
+-- what holds of all keys holds of each
+found_all : (p q : Key → Bool) (ks : List Key) (k : Key) → find p ks ≡ Some k → list_all q ks ≡ true → q k ≡ true
+found_all p q [] k found all = cc
+found_all p q (j ∷ js) k found all =
+    let parts = and_parts (q j) (list_all q js) all in
+    elim (cases_Bool (p j)) [
+      | inl is ↦
+          let here : Some j ≡ Some k = sym (ap (λ b. cond b (Some j) (find p js)) is) ∙ found in
+          let same : j ≡ k = cc here in
+          ap q (sym same) ∙ parts.0
+      | inr isnt ↦ found_all p q js k (sym (ap (λ b. cond b (Some j) (find p js)) isnt) ∙ found) parts.1
+    ]
+
+each_key : (q : Key → Bool) → list_all q keys ≡ true → (k : Key) → q k ≡ true
+each_key q all k = found_all (λ j. bytes_eq (key_name j) (key_name k)) q keys k (key_found k) all
+
+pub key_text : (k : Key) → is_key_text (key_name k) ≡ true
+key_text k = each_key (λ j. is_key_text (key_name j)) refl k
+
+pub key_short : (k : Key) → nat_le (length (key_name k)) 14 ≡ true
+key_short k = each_key (λ j. nat_le (length (key_name j)) 14) refl k
+
 -- none of these keys has the name of k
 abbrev pub has_no : Key → List Key → Bool
 has_no k ks = list_all (λ j. not (bytes_eq (key_name j) (key_name k))) ks
@@ -104,35 +75,20 @@ are_new earlier (k ∷ ks) = has_no k earlier && are_new (earlier ++ k ∷ []) k
 abbrev pub is_in : Key → List Key → Bool
 is_in k ks = list_any (λ j. bytes_eq (key_name j) (key_name k)) ks
 
-key_in : (k : Key) → is_in k KEYS ≡ true
-key_in Version = refl
-key_in Image = refl
-key_in ImageShape = refl
-key_in ImageColumn = refl
-key_in Categories = refl
-key_in Missing = refl
-key_in Grid = refl
-key_in Origin = refl
-key_in Size = refl
-key_in Points = refl
-key_in PointColumns = refl
-key_in Radii = refl
-key_in Template = refl
-key_in MaxData = refl
-key_in MinReplicates = refl
-key_in Levels = refl
-key_in Servo = refl
-key_in Targets = refl
-key_in Seed = refl
-key_in Realisations = refl
-key_in Store = refl
-key_in Window = refl
-key_in Output = refl
+found_in : (k : Key) (ks : List Key) → find (λ j. bytes_eq (key_name j) (key_name k)) ks ≡ Some k → is_in k ks ≡ true
+found_in k [] found = cc
+found_in k (j ∷ js) found = elim (cases_Bool (bytes_eq (key_name j) (key_name k))) [
+  | inl is ↦ ap (λ b. b || is_in k js) is
+  | inr isnt ↦ ap (λ b. b || is_in k js) isnt ∙ found_in k js (sym (ap (λ b. cond b (Some j) (find (λ i. bytes_eq (key_name i) (key_name k)) js)) isnt) ∙ found)
+]
 
-keys_apart : are_apart KEYS ≡ true
+key_in : (k : Key) → is_in k keys ≡ true
+key_in k = found_in k keys (key_found k)
+
+keys_apart : are_apart keys ≡ true
 keys_apart = refl
 
-pub keys_new : are_new [] KEYS ≡ true
+pub keys_new : are_new [] keys ≡ true
 keys_new = refl
 
 -- one name is one key
@@ -172,5 +128,5 @@ given_in p k (j ∷ js) apart among =
           given_skip (value_text p j) (key_name j) (key_name k) (entries_for p js) isnt ∙ given_in p k js parts.1 rest
     ]
 
-pub given_known : (p : ParamsValue) (k : Key) → given (entries_for p KEYS) (key_name k) ≡ value_text p k
-given_known p k = given_in p k KEYS keys_apart (key_in k)
+pub given_known : (p : ParamsValue) (k : Key) → given (entries_for p keys) (key_name k) ≡ value_text p k
+given_known p k = given_in p k keys keys_apart (key_in k)

@@ -9,20 +9,25 @@ use Rattle.mp_base.specs.Number.{micro_text}
 use Rattle.mp_params.specs.declared.fault.ParamsFault.TheVariants.{Absent, TooLong}
 use Rattle.mp_params.specs.declared.table.Key.{Key}
 use Rattle.mp_params.specs.declared.table.Key.TheVariants.{Version, Image, ImageShape, ImageColumn, Categories, Missing, Grid, Origin, Size, Points, PointColumns, Radii, Template, MaxData, MinReplicates, Levels, Servo, Targets, Seed, Realisations, Store, Window, Output}
-use Rattle.mp_params.specs.declared.table.TheConstants.{KEYS}
 use Rattle.mp_params.specs.Lines.{Entry, given, settings_of}
-use Rattle.mp_params.specs.Params.{ParamsValue, IsParams, AreParts}
-use Rattle.mp_params.specs.Printing.{ended_line, entries_for, number_text, print_text, sides_text, spaced, store_text, value_text}
-use Rattle.mp_params.specs.Reading.{◌>>=◌, grid_part, image_part, optional, params_of, run_part, search_part, value, values_of}
-use Rattle.mp_params.specs.Table.{default_of, form_of, key_name, number_of}
-use Rattle.mp_params.specs.Text.{lines_of}
-use Rattle.mp_params.specs.Values.{code_of, codes_of, columns_of, is_between, is_name, name_of, number_in, origin_of, radii_of, seed_of, shape_of, sizes_of, store_of, targets_of, version_of}
-use Rattle.mp_params.proofs.Back.{code_back, code_text_is, codes_back, codes_value, columns_back, columns_value, name_back, name_value, number_back, number_text_is, origin_back, origin_value, radii_back, radii_value, seed_back, seed_value, shape_back, shape_value, sizes_back, sizes_value, store_back, store_value, targets_back, targets_value, version_back}
+use Rattle.mp_params.specs.Params.{ParamsValue, IsParams}
+use Rattle.mp_values.specs.Forms.{AreParts}
+use Rattle.mp_params.specs.Printing.{ended_line, entries_for, print_text, value_text}
+use Rattle.mp_values.specs.Texts.{number_text, sides_text, store_text}
+use Rattle.mp_base.specs.Spaced.{spaced}
+use Rattle.mp_params.specs.Reading.{grid_part, image_part, optional, params_of, run_part, search_part, value, values_of}
+use Rattle.mp_params.specs.Table.{default_of, form_of, key_name, keys}
+use Rattle.mp_values.specs.Forms.{number_of}
+use Rattle.mp_text.specs.Lines.{line_texts}
+use Rattle.mp_text.specs.Chain.{◌>>=◌}
+use Rattle.mp_values.specs.Values.{code_of, codes_of, columns_of, is_between, is_name, name_of, number_in, origin_of, radii_of, seed_of, shape_of, sizes_of, store_of, targets_of, version_of}
+use Rattle.mp_values.proofs.Back.{code_back, code_text_is, codes_back, codes_value, columns_back, columns_value, name_back, name_value, number_back, number_text_is, origin_back, origin_value, radii_back, radii_value, seed_back, seed_value, shape_back, shape_value, sizes_back, sizes_value, store_back, store_value, targets_back, targets_value, version_back}
 use Rattle.mp_params.proofs.Clean.{AllClean, AreGood, IsGood, clean_keys, entries_few, entries_spelled, lines_back, settings_back, text_few}
 use Rattle.mp_params.proofs.Judged.{judged_ok}
 use Rattle.mp_params.proofs.Keys.{given_known, keys_new}
-use Rattle.mp_params.proofs.Spaced.{number_value}
-use Rattle.mp_params.proofs.Written.{IsEntry, IsValueText}
+use Rattle.mp_values.proofs.Spaced.{number_value}
+use Rattle.mp_params.proofs.Written.{IsEntry}
+use Rattle.mp_values.proofs.ValueTexts.{IsValueText}
 
 number_good : (low high n : ℕ) → high ≤ 999999999 → is_between low high n ≡ true → IsValueText (number_text n) × (is_some (number_in low high (number_text n)) ≡ true)
 number_good low high n small is = (number_value (number_text n) (number_text_is low high n small is), ap is_some (number_back low high n small is))
@@ -151,11 +156,11 @@ module _ (p : ParamsValue) (is : IsParams p) (es : List Entry) (known : AreKnown
 pub reads_back : (p : ParamsValue) → IsParams p → params_of (print_text p) ≡ Ok p
 unfolding params_of print_text
 reads_back p is =
-    let es : List Entry = entries_for p KEYS in
+    let es : List Entry = entries_for p keys in
     let good : AreGood p = record { each = good_of p is } in
-    let spelled : AllByRecursion IsEntry es = entries_spelled p good KEYS in
-    let clean : AllClean [] es = clean_keys p good [] KEYS keys_new in
-    let few : length (flat_map ended_line es) ≤ 65536 = omega (arith, text_few es spelled, entries_few p KEYS) in
-    let settings : settings_of (lines_of (flat_map ended_line es)) ≡ Ok es = ap settings_of (lines_back es spelled) ∙ settings_back es spelled clean in
+    let spelled : AllByRecursion IsEntry es = entries_spelled p good keys in
+    let clean : AllClean [] es = clean_keys p good [] keys keys_new in
+    let few : length (flat_map ended_line es) ≤ 65536 = omega (arith, text_few es spelled, entries_few p keys) in
+    let settings : settings_of (line_texts (flat_map ended_line es)) ≡ Ok es = ap settings_of (lines_back es spelled) ∙ settings_back es spelled clean in
     let known : AreKnown p es = record { each = given_known p } in
-    ap (λ b. cond b (Err TooLong) (settings_of (lines_of (flat_map ended_line es)) >>= values_of)) (le-ltb 65536 (length (flat_map ended_line es)) few) ∙ ap (λ r. r >>= values_of) settings ∙ values_back p is es known
+    ap (λ b. cond b (Err TooLong) (settings_of (line_texts (flat_map ended_line es)) >>= values_of)) (le-ltb 65536 (length (flat_map ended_line es)) few) ∙ ap (λ r. r >>= values_of) settings ∙ values_back p is es known

@@ -1,12 +1,7 @@
-pub mod Pieces
-pub mod Gathered
-pub mod Names
 pub mod Faults
 pub mod Judged
 pub mod Printed
 pub mod Written
-pub mod Spaced
-pub mod Back
 pub mod Keys
 pub mod Clean
 pub mod Law

@@ -7,21 +7,13 @@ use Rattle.std.proofs.lemmas.Bool.Decides.{nat_tests}
 use Rattle.std.proofs.lemmas.List.{append_assoc, drop_at, get_or_append_left, get_or_at, get_or_past, length_push, take_at, take_all}
 use Rattle.std.proofs.lemmas.List.Folds.{list_all-append, list_any-append}
 use Rattle.std.proofs.lemmas.List.Sums.{AllPass-from_list_all, suffix_len_is}
-use Rattle.mp_params.specs.Lines.{Entry, entry_in, entry_of, is_equals, is_key_byte, is_key_text, is_remark, is_setting, is_skipped}
+use Rattle.mp_params.specs.Lines.{Entry, entry_in, entry_of, is_equals, is_key_byte, is_key_text, is_setting}
 use Rattle.mp_params.specs.Printing.{line_text}
-use Rattle.mp_params.specs.Text.{fields_of, has_bytes, is_blank, is_line_end, lines_of, pieces, to_visible, trimmed, without_return}
-use Rattle.mp_params.specs.Values.{is_line_byte}
-use Rattle.mp_params.proofs.Pieces.{from_blank, from_seen}
-
-pub all_weaker : (p q : ℕ → Bool) → ((b : ℕ) → p b ≡ true → q b ≡ true) → (xs : List ℕ) → list_all p xs ≡ true → list_all q xs ≡ true
-all_weaker p q each [] all = refl
-all_weaker p q each (x ∷ xs) all =
-    let parts = and_parts (p x) (list_all p xs) all in
-    and_from (q x) (list_all q xs) (each x parts.0) (all_weaker p q each xs parts.1)
-
--- no byte passes
-abbrev pub is_free : (ℕ → Bool) → List ℕ → Bool
-is_free p xs = list_all (λ b. not (p b)) xs
+use Rattle.mp_text.specs.Lines.{line_texts}
+use Rattle.mp_text.specs.Fields.{is_blank, is_remark, is_skipped, to_visible, trimmed}
+use Rattle.mp_values.specs.Values.{is_line_byte}
+use Rattle.mp_values.proofs.ValueTexts.{IsValueText, all_weaker}
+use Rattle.mp_text.proofs.Written.{is_feed, is_free, line_texts_behind, from_blank, from_seen}
 
 module _ (p : ℕ → Bool) (b : ℕ) (rest : List ℕ) (ends : p b ≡ true) where
   position_behind : (xs : List ℕ) → is_free p xs ≡ true → position_or_len p (xs ++ b ∷ rest) ≡ length xs
@@ -39,28 +31,8 @@ module _ (p : ℕ → Bool) (b : ℕ) (rest : List ℕ) (ends : p b ≡ true) wh
       ap (λ n. drop (n + 1) (xs ++ b ∷ rest)) (position_behind xs free) ∙ ap (drop (length xs + 1)) (sym (append_assoc xs (b ∷ []) rest))
       ∙ drop_at (xs ++ b ∷ []) rest (length xs + 1) (length_push xs b)
 
-  pub pieces_behind : (xs : List ℕ) → is_free p xs ≡ true → pieces p (xs ++ b ∷ rest) ≡ xs ∷ pieces p rest
-  pieces_behind [] free = rw ends refl
-  pieces_behind (x ∷ xs) free =
-      let parts = and_parts (not (p x)) (is_free p xs) free in
-      let isnt : p x ≡ false = not-true (p x) parts.0 in
-      ap (λ t. cond t ([] ∷ pieces p (xs ++ b ∷ rest)) (onto_first x (pieces p (xs ++ b ∷ rest)))) isnt ∙ ap (onto_first x) (pieces_behind xs parts.1)
-
-pub pieces_one : (p : ℕ → Bool) (x : ℕ) (xs : List ℕ) → is_free p (x ∷ xs) ≡ true → pieces p (x ∷ xs) ≡ (x ∷ xs) ∷ []
-pieces_one p x [] free = ap (λ t. cond t ([] ∷ []) ((x ∷ []) ∷ [])) (not-true (p x) (and_parts (not (p x)) true free).0)
-pieces_one p x (y ∷ ys) free =
-    let parts = and_parts (not (p x)) (is_free p (y ∷ ys)) free in
-    ap (λ t. cond t ([] ∷ pieces p (y ∷ ys)) (onto_first x (pieces p (y ∷ ys)))) (not-true (p x) parts.0) ∙ ap (onto_first x) (pieces_one p y ys parts.1)
-
--- a field, and the fields behind it
-pub field_behind : (x : ℕ) (xs rest : List ℕ) → is_free is_blank (x ∷ xs) ≡ true → fields_of ((x ∷ xs) ++ 32 ∷ rest) ≡ (x ∷ xs) ∷ fields_of rest
-field_behind x xs rest free = ap (filter has_bytes) (pieces_behind is_blank 32 rest refl (x ∷ xs) free)
-
-pub field_one : (x : ℕ) (xs : List ℕ) → is_free is_blank (x ∷ xs) ≡ true → fields_of (x ∷ xs) ≡ (x ∷ xs) ∷ []
-field_one x xs free = ap (filter has_bytes) (pieces_one is_blank x xs free)
-
 -- the bytes of a line end none
-line_no_end : (b : ℕ) → is_line_byte b ≡ true → not (is_line_end b) ≡ true
+line_no_end : (b : ℕ) → is_line_byte b ≡ true → not (is_feed b) ≡ true
 line_no_end b is = grind (arith, nat_tests)
 
 line_no_return : (b : ℕ) → is_line_byte b ≡ true → (b == 13) ≡ false
@@ -72,22 +44,9 @@ at_no_return xs i all = elim (cases_lt i (length xs)) [
   | inr past ↦ ap (λ b. b == 13) (get_or_past xs i 0 past)
 ]
 
-no_return : (xs : List ℕ) → list_all is_line_byte xs ≡ true → without_return xs ≡ xs
-no_return xs all = ap (λ t. cond t (take (length xs - 1) xs) xs) (at_no_return xs (length xs - 1) all)
-
 -- a line, and the lines behind it
-pub line_behind : (xs rest : List ℕ) → list_all is_line_byte xs ≡ true → lines_of (xs ++ 10 ∷ rest) ≡ xs ∷ lines_of rest
-line_behind xs rest all =
-    ap (map without_return) (pieces_behind is_line_end 10 rest refl xs (all_weaker is_line_byte (λ b. not (is_line_end b)) line_no_end xs all))
-    ∙ ap (λ line. line ∷ lines_of rest) (no_return xs all)
-
--- a value's text: bytes that a line may hold, with no blank at either end
-pub record IsValueText (text : List ℕ) : Type 0 where
-  pub bytes : list_all is_line_byte text ≡ true
-  pub some : 1 ≤ length text
-  pub first : is_blank (get_or text 0 0) ≡ false
-  pub last : is_blank (get_or text (length text - 1) 0) ≡ false
-  pub few : length text ≤ 600
+pub line_behind : (xs rest : List ℕ) → list_all is_line_byte xs ≡ true → line_texts (xs ++ 10 ∷ rest) ≡ xs ∷ line_texts rest
+line_behind xs rest all = line_texts_behind xs rest (all_weaker is_line_byte (λ b. not (is_feed b)) line_no_end xs all) (at_no_return xs (length xs - 1) all)
 
 -- an entry that a line spells
 pub record IsEntry (e : Entry) : Type 0 where

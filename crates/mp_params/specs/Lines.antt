@@ -7,9 +7,10 @@ use Rattle.mp_params.specs.declared.fault.ParamsFault.TheVariants.{BadLine, Unkn
 use Rattle.mp_params.specs.declared.fault.ParamsError.{ParamsError}
 use Rattle.mp_params.specs.declared.fault.ParamsError.TheVariants.{Fault, NoMemory}
 use Rattle.mp_params.specs.declared.table.Key.{Key}
-use Rattle.mp_params.specs.Table.{fits, form_of, key_of}
-use Rattle.mp_params.specs.Text.{from_visible, trimmed}
-use Rattle.mp_params.specs.Values.{is_line_byte}
+use Rattle.mp_values.specs.Forms.{fits}
+use Rattle.mp_params.specs.Table.{form_of, key_of}
+use Rattle.mp_text.specs.Fields.{is_skipped, trimmed}
+use Rattle.mp_values.specs.Values.{is_line_byte}
 
 -- what a function returned, seen by view, is what reading gives, unless memory ran out
 abbrev pub Fails : {Y : Type 0} → ParamsError → Result Y ParamsFault → Type 0
@@ -28,15 +29,6 @@ pub record Entry : Type 0 where
 -- `=`
 abbrev pub is_equals : ℕ → Bool
 is_equals b = b == 61
-
--- nothing, or a text that begins with `#`
-abbrev pub is_remark : List ℕ → Bool
-is_remark [] = true
-is_remark (b ∷ bs) = b == 35
-
--- blanks alone, or blanks and a remark
-abbrev pub is_skipped : List ℕ → Bool
-is_skipped line = is_remark (from_visible line)
 
 -- what stands before the first `=` and after it, without the blanks at the ends
 abbrev pub entry_in : List ℕ → Entry

@@ -1,9 +1,9 @@
 -- The parameters of a simulation as values, and what holds of them.
 use Rattle.std.specs.Prelude.{◌≡◌, ℕ, ◌^◌, ◌<◌, ◌≤◌, Bool, true, false, ◌&&◌, ◌==◌, List, length, ℤ, Option, Some, None, IfSome, sum}
-use Rattle.std.specs.List.{list_all}
 use Rattle.mp_base.specs.Grid.{Sides, IsShape}
-use Rattle.mp_params.specs.declared.store.StoreChoice.{StoreChoice}
-use Rattle.mp_params.specs.Values.{are_codes, are_columns, are_sizes, is_between, is_code, is_coordinate, is_name, is_number}
+use Rattle.mp_values.specs.Forms.{AreCategories, AreColumns, AreParts, AreRadii, IsOrigin}
+use Rattle.mp_values.specs.declared.choice.StoreChoice.{StoreChoice}
+use Rattle.mp_values.specs.Values.{are_sizes, is_between, is_code, is_name, is_number}
 
 -- a value for each key
 pub record ParamsValue : Type 0 where
@@ -30,33 +30,6 @@ pub record ParamsValue : Type 0 where
   pub store : StoreChoice
   pub window : ℕ
   pub output : List ℕ
-
--- one to eight codes, no two of them equal
-pub record AreCategories (cs : List ℤ) : Type 0 where
-  pub codes : are_codes cs ≡ true
-  pub numbers : list_all is_number cs ≡ true
-  pub few : length cs ≤ 8
-
--- three coordinates
-pub record IsOrigin (zs : List ℤ) : Type 0 where
-  pub three : length zs ≡ 3
-  pub coordinates : list_all is_coordinate zs ≡ true
-
--- three radii
-pub record AreRadii (ns : List ℕ) : Type 0 where
-  pub three : length ns ≡ 3
-  pub between : list_all (is_between 0 64) ns ≡ true
-
--- four columns, the last of which isn't 0
-pub record AreColumns (ns : List ℕ) : Type 0 where
-  pub columns : are_columns ns ≡ true
-  pub between : list_all (is_between 0 64) ns ≡ true
-
--- one to eight parts of a million
-pub record AreParts (ns : List ℕ) : Type 0 where
-  pub some : 1 ≤ length ns
-  pub few : length ns ≤ 8
-  pub between : list_all (is_between 0 1000000) ns ≡ true
 
 -- targets, if there are any, are as many as the categories, and their sum is a million
 abbrev pub targets_fit : Option (List ℕ) → List ℤ → Bool

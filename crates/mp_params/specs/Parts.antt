@@ -5,8 +5,9 @@ use Rattle.mp_params.specs.declared.parts.ImagePart.{ImagePart}
 use Rattle.mp_params.specs.declared.parts.GridPart.{GridPart}
 use Rattle.mp_params.specs.declared.parts.SearchPart.{SearchPart}
 use Rattle.mp_params.specs.declared.parts.RunPart.{RunPart}
-use Rattle.mp_params.specs.Params.{ParamsValue, AreCategories, AreColumns, AreParts, AreRadii, IsOrigin}
-use Rattle.mp_params.specs.Values.{are_sizes, is_between, is_name, is_number}
+use Rattle.mp_params.specs.Params.{ParamsValue}
+use Rattle.mp_values.specs.Forms.{AreCategories, AreColumns, AreParts, AreRadii, IsOrigin}
+use Rattle.mp_values.specs.Values.{are_sizes, is_between, is_name, is_number}
 
 pub record IsImagePart (p : ImagePart) : Type 0 where
   pub version : p.version ≡ 1

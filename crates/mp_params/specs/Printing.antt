@@ -2,35 +2,14 @@
 use Rattle.std.specs.Prelude.{ℕ, List, [], ◌∷◌, ◌++◌, pos, Option, Some, option_map, codes}
 use Rattle.std.specs.Fmt.{signed_decimal}
 use Rattle.std.specs.List.{filter_map, flat_map}
-use Rattle.mp_base.specs.Grid.{Sides}
 use Rattle.mp_base.specs.Number.{micro_text}
-use Rattle.mp_params.specs.declared.store.StoreChoice.{StoreChoice}
-use Rattle.mp_params.specs.declared.store.StoreChoice.TheVariants.{Tree, List as Listed}
+use Rattle.mp_base.specs.Spaced.{spaced}
+use Rattle.mp_values.specs.Texts.{number_text, sides_text, store_text}
 use Rattle.mp_params.specs.declared.table.Key.{Key}
 use Rattle.mp_params.specs.declared.table.Key.TheVariants.{Version, Image, ImageShape, ImageColumn, Categories, Missing, Grid, Origin, Size, Points, PointColumns, Radii, Template, MaxData, MinReplicates, Levels, Servo, Targets, Seed, Realisations, Store, Window, Output}
-use Rattle.mp_params.specs.declared.table.TheConstants.{KEYS}
 use Rattle.mp_params.specs.Lines.{Entry}
 use Rattle.mp_params.specs.Params.{ParamsValue}
-use Rattle.mp_params.specs.Table.{key_name}
-
-abbrev pub number_text : ℕ → List ℕ
-number_text n = signed_decimal (pos n)
-
--- the texts of some values, each behind a space
-abbrev pub behind_spaces : {X : Type 0} → (X → List ℕ) → List X → List ℕ
-behind_spaces text xs = flat_map (λ x. 32 ∷ text x) xs
-
--- the texts of some values, with a space between each two
-abbrev pub spaced : {X : Type 0} → (X → List ℕ) → List X → List ℕ
-spaced text [] = []
-spaced text (x ∷ xs) = text x ++ behind_spaces text xs
-
-abbrev pub sides_text : Sides → List ℕ
-sides_text s = spaced number_text (s.nx ∷ s.ny ∷ s.nz ∷ [])
-
-abbrev pub store_text : StoreChoice → List ℕ
-store_text Tree = codes "tree"
-store_text Listed = codes "list"
+use Rattle.mp_params.specs.Table.{key_name, keys}
 
 -- the text of a key's value, if it has one
 abbrev pub value_text : ParamsValue → Key → Option (List ℕ)
@@ -80,4 +59,4 @@ lines_text p keys = flat_map ended_line (entries_for p keys)
 
 -- the text of parameters: the lines of all keys, in the order of the table
 unfoldable pub print_text : ParamsValue → List ℕ
-print_text p = lines_text p KEYS
+print_text p = lines_text p keys

@@ -12,14 +12,11 @@ use Rattle.mp_params.specs.declared.parts.RunPart.{RunPart}
 use Rattle.mp_params.specs.Lines.{Entry, given, settings_of}
 use Rattle.mp_params.specs.Params.{ParamsValue, targets_fit}
 use Rattle.mp_params.specs.Parts.{joined}
-use Rattle.mp_params.specs.Table.{key_name, default_of, form_of, number_of}
-use Rattle.mp_params.specs.Text.{lines_of}
-use Rattle.mp_params.specs.Values.{name_of, shape_of, code_of, codes_of, origin_of, sizes_of, columns_of, radii_of, targets_of, seed_of, store_of, version_of, is_code}
-
-infixl 10 ◌>>=◌
-abbrev pub ◌>>=◌ : {A B : Type 0} → Result A ParamsFault → (A → Result B ParamsFault) → Result B ParamsFault
-(Ok x) >>= f = f x
-(Err e) >>= f = Err e
+use Rattle.mp_params.specs.Table.{key_name, default_of, form_of}
+use Rattle.mp_values.specs.Forms.{number_of}
+use Rattle.mp_text.specs.Lines.{line_texts}
+use Rattle.mp_text.specs.Chain.{◌>>=◌}
+use Rattle.mp_values.specs.Values.{name_of, shape_of, code_of, codes_of, origin_of, sizes_of, columns_of, radii_of, targets_of, seed_of, store_of, version_of, is_code}
 
 -- the text of a key's value: what a line gives, or else the default
 abbrev pub text_for : Key → List Entry → Option (List ℕ)
@@ -89,4 +86,4 @@ values_of entries = do
 
 -- the parameters of a file, or its fault
 unfoldable pub params_of : List ℕ → Result ParamsValue ParamsFault
-params_of file = if nat_lt 65536 (length file) then Err TooLong else settings_of (lines_of file) >>= values_of
+params_of file = if nat_lt 65536 (length file) then Err TooLong else settings_of (line_texts file) >>= values_of

@@ -1,10 +1,8 @@
 // The parameters of a simulation.
 ghost use Rattle.std.specs.Prelude.{◌≡◌};
 
-use crate::name::Name;
-use crate::store::StoreChoice;
-use crate::targets::Targets;
 use mp_base::{CodeList, Shape};
+use mp_values::{Name, StoreChoice, Targets};
 use std::marker::Model;
 
 /// The parameters of a simulation: a value for each key of a parameter file. Each value is one

@@ -5,20 +5,19 @@ ghost use Rattle.mp_base.specs.Grid.{IsShape};
 ghost use Rattle.mp_params.specs.declared.fault.ParamsError.TheVariants as errors;
 ghost use Rattle.mp_params.specs.declared.fault.ParamsFault.TheVariants.{Absent};
 ghost use Rattle.mp_params.specs.Lines.{Gives};
-ghost use Rattle.mp_params.specs.Params.{AreCategories, AreColumns, AreParts, AreRadii, IsOrigin};
+ghost use Rattle.mp_values.specs.Forms.{AreCategories, AreColumns, AreParts, AreRadii, IsOrigin};
 ghost use Rattle.mp_params.specs.Parts.{IsGridPart, IsImagePart, IsRunPart, IsSearchPart};
 ghost use Rattle.mp_params.specs.Reading.{grid_part, image_part, number, optional, run_part, search_part, text_for, value};
-ghost use Rattle.mp_params.specs.Table.{form_of, is_number_of};
-ghost use Rattle.mp_params.specs.Values.{are_sizes, code_of, codes_of, columns_of, is_name, is_number, name_of, origin_of, radii_of, seed_of, shape_of, sizes_of, store_of, targets_of, version_of};
+ghost use Rattle.mp_params.specs.Table.{form_of};
+ghost use Rattle.mp_values.specs.Forms.{is_number_of};
+ghost use Rattle.mp_values.specs.Values.{are_sizes, code_of, codes_of, columns_of, is_name, is_number, name_of, origin_of, radii_of, seed_of, shape_of, sizes_of, store_of, targets_of, version_of};
 
 use crate::fault::{ParamsError, ParamsFault};
-use crate::name::Name;
 use crate::settings::{Setting, given};
-use crate::store::StoreChoice;
-use crate::table::{Form, Key};
-use crate::targets::Targets;
-use crate::{lists, values};
+use crate::table::Key;
 use mp_base::{CodeList, Shape};
+use mp_values as values;
+use mp_values::{Form, Name, StoreChoice, Targets};
 use std::alloc::Global;
 
 /// The training image, its categories and its missing value.
@@ -177,7 +176,7 @@ fn number(settings: &[Setting<'_>], key: Key) -> Result<u32, ParamsError>
     let Some(text) = text_for(settings, key) else {
         return Err(absent(key));
     };
-    lists::number_in(text, low, high).ok_or(absent(key))
+    values::number_in(text, low, high).ok_or(absent(key))
 }
 
 // The code of a key.
@@ -188,7 +187,7 @@ fn code(settings: &[Setting<'_>], key: Key) -> Result<i32, ParamsError>
     let Some(text) = text_for(settings, key) else {
         return Err(absent(key));
     };
-    lists::code(text).ok_or(absent(key))
+    values::code(text).ok_or(absent(key))
 }
 
 // The version of a key.

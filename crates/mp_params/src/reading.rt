@@ -12,7 +12,7 @@ use crate::parts::{
     GridPart, ImagePart, RunPart, SearchPart, grid_part, image_part, run_part, search_part,
 };
 use crate::settings::{Setting, settings};
-use crate::targets::Targets;
+use mp_values::Targets;
 use std::alloc::Global;
 
 // The greatest length of a parameter file.

@@ -1,16 +1,16 @@
 // The settings of a file: its lines, judged one after another.
-ghost use Rattle.std.specs.Prelude.{◌≡◌, ◌++◌, ◌≤◌, OnOk, is_some, option_map, length};
-ghost use Rattle.std.specs.List.{list_all, list_any};
+ghost use Rattle.std.specs.Prelude.{◌≡◌, ◌++◌, ◌≤◌, OnOk, Some, None, if◌then◌else◌, is_some, option_map, length};
+ghost use Rattle.std.specs.List.{list_all};
 ghost use Rattle.std.specs.Option.{option_to_list};
-ghost use Rattle.mp_params.specs.Lines.{Gives, entry_in, entry_of, given, is_equals, is_key_byte, is_key_text, is_setting, is_skipped, key_fault, line_fault, settings_of, unless};
+ghost use Rattle.mp_params.specs.Lines.{Gives, entry_in, entry_of, given, is_key_byte, is_key_text, is_setting, key_fault, line_fault, settings_of, unless};
 ghost use Rattle.mp_params.specs.Table.{key_of as key_named};
-ghost use Rattle.mp_params.specs.Text.{lines_of};
+ghost use Rattle.mp_text.specs.Lines.{line_texts};
 
 use crate::fault::{ParamsError, ParamsFault};
 use crate::table::key_of;
-use crate::text::{are_line_bytes, behind, first_line, from_visible, place_of, trimmed};
-use crate::values::fits;
 use mp_base::NoMemory;
+use mp_text::{cut, is_skipped, line_text, next_line, trimmed};
+use mp_values::{are_line_bytes, fits};
 use std::alloc::Global;
 use std::marker::Model;
 
@@ -32,14 +32,14 @@ impl<'a> Model for Setting<'a> {
 /// The settings of a file, or the fault of its first line that has one.
 pub fn settings(alloc: Global, file: &[u8]) -> Result<Vec<Setting<'_>>, ParamsError>
     requires { length file.now ≤ 65536 }
-    ensures { Gives (λ v. v.items) result (settings_of (lines_of file.now)) }
+    ensures { Gives (λ v. v.items) result (settings_of (line_texts file.now)) }
 {
     let mut settings = Vec::new(alloc);
     let mut rest = file;
     let mut number = 0;
-    while let Some((line, more)) = first_line(rest) {
+    while let Some((line, more)) = next_line(rest) {
         number += 1;
-        match judged(number, &settings, line) {
+        match judged(number, &settings, line_text(line)) {
             Ok(setting) => add(&mut settings, setting)?,
             Err(fault) => return Err(ParamsError::Fault(fault)),
         }
@@ -82,10 +82,9 @@ fn judged<'a>(
     if is_skipped(line) {
         return Ok(None);
     }
-    let setting = setting_in(line);
-    if !is_setting(line, &setting) {
+    let Some(setting) = setting_in(line) else {
         return Err(ParamsFault::BadLine { line: number });
-    }
+    };
     if let Some(fault) = key_fault(number, earlier, &setting) {
         return Err(fault);
     }
@@ -108,23 +107,23 @@ fn key_fault(number: u32, earlier: &[Setting<'_>], setting: &Setting<'_>) -> Opt
     None
 }
 
-// What stands before the first `=` and after it.
-fn setting_in(line: &[u8]) -> Setting<'_>
-    ensures { result ≡ entry_in line.now }
+// What stands before the first `=` and after it, where the line has the bytes of a setting and a
+// key's name before the `=`.
+fn setting_in(line: &[u8]) -> Option<Setting<'_>>
+    ensures { result ≡ (if is_setting line.now then Some (entry_in line.now) else None) }
 {
-    let place = place_of(line, b'=');
-    Setting {
-        name: trimmed(&line[..place]),
-        text: trimmed(behind(line, place)),
+    let Some((name, text)) = cut(line, b'=') else {
+        return None;
+    };
+    let setting = Setting {
+        name: trimmed(name),
+        text: trimmed(text),
+    };
+    if are_line_bytes(line) && is_key_text(setting.name) {
+        Some(setting)
+    } else {
+        None
     }
-}
-
-// Whether a line has the bytes of a setting, a `=`, and a key's name before it.
-fn is_setting(line: &[u8], setting: &Setting<'_>) -> bool
-    requires { setting.now ≡ entry_in line.now }
-    ensures { result ≡ is_setting line.now }
-{
-    are_line_bytes(line) && line.contains(&b'=') && is_key_text(setting.name)
 }
 
 // Whether a text looks like the name of a key.
@@ -146,14 +145,4 @@ fn is_key_byte(byte: u8) -> bool
     ensures { result ≡ is_key_byte byte }
 {
     byte.is_ascii_lowercase() || byte == b'_'
-}
-
-// Whether a line has blanks alone, or begins a remark.
-fn is_skipped(line: &[u8]) -> bool
-    ensures { result ≡ is_skipped line.now }
-{
-    match from_visible(line) {
-        [] => true,
-        [first, ..] => *first == b'#',
-    }
 }

@@ -1,7 +1,9 @@
-// The table of keys: the order, the name of each, the form of its value, and the text of its
-// default. Another key is another line in each of the four lists here.
-ghost use Rattle.std.specs.Prelude.{◌≡◌, ◌≤◌, length, option_map};
-ghost use Rattle.mp_params.specs.Table.{key_name, form_of, default_of, key_of};
+// The table of keys: their order, and what is told of each.
+ghost use Rattle.std.specs.Prelude.{◌≡◌};
+ghost use Rattle.mp_params.specs.Table.{key_of, optional, or_else, required};
+
+use mp_values::Form;
+use std::marker::Model;
 
 /// A key of a parameter file.
 #[derive(Clone, Copy, Debug, PartialEq, Eq)]
@@ -31,35 +33,23 @@ pub enum Key {
     Output,
 }
 
-/// What the value of a key looks like.
-#[derive(Clone, Copy, Debug, PartialEq, Eq)]
-pub enum Form {
-    /// The version of the file's format.
-    Version,
-    /// The name of a file.
-    Name,
-    /// Three numbers that are the sides of a grid.
-    Shape,
-    /// A number from the first to the second.
-    Number(u32, u32),
-    /// One to eight different numbers.
-    Codes,
-    /// A number.
-    Code,
-    /// Three coordinates.
-    Origin,
-    /// Three coordinates that are lengths of a cell.
-    Sizes,
-    /// Three columns or none, and a column.
-    Columns,
-    /// Three radii.
-    Radii,
-    /// One to eight parts of a million.
-    Targets,
-    /// A seed of 64 bits.
-    Seed,
-    /// `tree` or `list`.
-    Store,
+/// What is told of a key: its name in a file, the form of its value, whether a line has to have it,
+/// and the text of the value that stands where no line has it.
+#[derive(Drop)]
+pub struct Row {
+    pub name: &'static str,
+    pub form: Form,
+    pub is_required: bool,
+    pub default: Option<&'static [u8]>,
+}
+
+impl Model for Row {
+    ghost use Rattle.std.specs.Prelude.{option_map};
+    ghost use Rattle.mp_params.specs.Table.{Row};
+
+    ghost Value = { Row };
+
+    ghost view = { λ r. record { name = r.name.now; form = r.form; is_required = r.is_required; default = option_map (λ t. t.now) r.default } };
 }
 
 /// The keys, in the order in which they are printed and looked for.
@@ -90,62 +80,53 @@ pub const KEYS: [Key; 23] = [
 ];
 
 impl Key {
+    ghost use Rattle.std.specs.Prelude.{◌≤◌, length, option_map};
+    ghost use Rattle.mp_params.specs.Table.{default_of, form_of, key_name, row_of};
+
+    /// What is told of the key.
+    pub fn row(self) -> Row
+        ensures { result ≡ row_of self }
+    {
+        match self {
+            Key::Version => or_else(b"1", "version", Form::Version),
+            Key::Image => required("image", Form::Name),
+            Key::ImageShape => required("image_shape", Form::Shape),
+            Key::ImageColumn => or_else(b"1", "image_column", Form::Number(1, 64)),
+            Key::Categories => required("categories", Form::Codes),
+            Key::Missing => or_else(b"-9966699", "missing", Form::Code),
+            Key::Grid => required("grid", Form::Shape),
+            Key::Origin => or_else(b"0 0 0", "origin", Form::Origin),
+            Key::Size => or_else(b"1 1 1", "size", Form::Sizes),
+            Key::Points => optional("points", Form::Name),
+            Key::PointColumns => or_else(b"1 2 3 4", "point_columns", Form::Columns),
+            Key::Radii => required("radii", Form::Radii),
+            Key::Template => required("template", Form::Number(1, 64)),
+            Key::MaxData => or_else(b"64", "max_data", Form::Number(1, 64)),
+            Key::MinReplicates => or_else(b"10", "min_replicates", Form::Number(1, 1_000_000)),
+            Key::Levels => or_else(b"1", "levels", Form::Number(1, 8)),
+            Key::Servo => or_else(b"0", "servo", Form::Number(0, 999)),
+            Key::Targets => optional("targets", Form::Targets),
+            Key::Seed => or_else(b"0", "seed", Form::Seed),
+            Key::Realisations => or_else(b"1", "realisations", Form::Number(1, 1000)),
+            Key::Store => or_else(b"tree", "store", Form::Store),
+            Key::Window => or_else(b"64", "window", Form::Number(1, 256)),
+            Key::Output => required("output", Form::Name),
+        }
+    }
+
     /// The name of the key in a file.
     pub fn name(self) -> &'static str
         ensures name { result.now ≡ key_name self }
         ensures short { length result.now ≤ 20 }
     {
-        match self {
-            Key::Version => "version",
-            Key::Image => "image",
-            Key::ImageShape => "image_shape",
-            Key::ImageColumn => "image_column",
-            Key::Categories => "categories",
-            Key::Missing => "missing",
-            Key::Grid => "grid",
-            Key::Origin => "origin",
-            Key::Size => "size",
-            Key::Points => "points",
-            Key::PointColumns => "point_columns",
-            Key::Radii => "radii",
-            Key::Template => "template",
-            Key::MaxData => "max_data",
-            Key::MinReplicates => "min_replicates",
-            Key::Levels => "levels",
-            Key::Servo => "servo",
-            Key::Targets => "targets",
-            Key::Seed => "seed",
-            Key::Realisations => "realisations",
-            Key::Store => "store",
-            Key::Window => "window",
-            Key::Output => "output",
-        }
+        self.row().name
     }
 
     /// The form that the key's value has to have.
     pub fn form(self) -> Form
         ensures { result ≡ form_of self }
     {
-        match self {
-            Key::Version => Form::Version,
-            Key::Image | Key::Points | Key::Output => Form::Name,
-            Key::ImageShape | Key::Grid => Form::Shape,
-            Key::ImageColumn | Key::Template | Key::MaxData => Form::Number(1, 64),
-            Key::Categories => Form::Codes,
-            Key::Missing => Form::Code,
-            Key::Origin => Form::Origin,
-            Key::Size => Form::Sizes,
-            Key::PointColumns => Form::Columns,
-            Key::Radii => Form::Radii,
-            Key::MinReplicates => Form::Number(1, 1_000_000),
-            Key::Levels => Form::Number(1, 8),
-            Key::Servo => Form::Number(0, 999),
-            Key::Targets => Form::Targets,
-            Key::Seed => Form::Seed,
-            Key::Realisations => Form::Number(1, 1000),
-            Key::Store => Form::Store,
-            Key::Window => Form::Number(1, 256),
-        }
+        self.row().form
     }
 
     /// The text of the value that stands where no line has the key. Nothing where the key is
@@ -153,26 +134,43 @@ impl Key {
     pub fn default(self) -> Option<&'static [u8]>
         ensures { option_map (λ t. t.now) result ≡ default_of self }
     {
-        match self {
-            Key::Version | Key::ImageColumn | Key::Levels | Key::Realisations => Some(b"1"),
-            Key::Missing => Some(b"-9966699"),
-            Key::Origin => Some(b"0 0 0"),
-            Key::Size => Some(b"1 1 1"),
-            Key::PointColumns => Some(b"1 2 3 4"),
-            Key::MaxData | Key::Window => Some(b"64"),
-            Key::MinReplicates => Some(b"10"),
-            Key::Servo | Key::Seed => Some(b"0"),
-            Key::Store => Some(b"tree"),
-            Key::Image
-            | Key::ImageShape
-            | Key::Categories
-            | Key::Grid
-            | Key::Points
-            | Key::Radii
-            | Key::Template
-            | Key::Targets
-            | Key::Output => None,
-        }
+        self.row().default
+    }
+}
+
+// A key that a file has to have.
+fn required(name: &'static str, form: Form) -> Row
+    ensures { result ≡ required name.now form }
+{
+    Row {
+        name,
+        form,
+        is_required: true,
+        default: None,
+    }
+}
+
+// A key that has no value where no line has it.
+fn optional(name: &'static str, form: Form) -> Row
+    ensures { result ≡ optional name.now form }
+{
+    Row {
+        name,
+        form,
+        is_required: false,
+        default: None,
+    }
+}
+
+// A key whose value has this text where no line has it.
+fn or_else(text: &'static [u8], name: &'static str, form: Form) -> Row
+    ensures { result ≡ or_else text.now name.now form }
+{
+    Row {
+        name,
+        form,
+        is_required: false,
+        default: Some(text),
     }
 }
 

@@ -1,7 +1,7 @@
 use Rattle.std.proofs.Common.{ap, sym, ◌∙◌}
 use Rattle.mp_params.specs.Params.{targets_fit}
 use Rattle.mp_params.specs.Parts.{joined}
-use Rattle.mp_params.specs.Values.{is_code}
+use Rattle.mp_values.specs.Values.{is_code}
 use Rattle.mp_params.proofs.Judged.{bad_missing, bad_targets}
 use Rattle.mp_params.proofs.reading.joined.Goals as goal
 

@@ -1,45 +1,47 @@
-use Rattle.std.proofs.Common.{◌≡◌, ◌+◌, ◌≤◌, Ok, [], Some, None, length, drop, arith, ap, sym, ◌∙◌}
+use Rattle.std.proofs.Common.{◌≡◌, ◌+◌, ◌≤◌, Ok, [], Some, None, ◌∷◌, List, ℕ, map, length, drop, arith, ap, sym, ◌∙◌}
 use Rattle.std.proofs.lemmas.List.{length-drop, take_all}
 use borrow.Author.Count.{below_more}
 use Rattle.mp_params.specs.Lines.{entries_of, entry_of, fault_at, line_fault}
-use Rattle.mp_params.specs.Text.{lines_of}
+use Rattle.mp_text.specs.Lines.{line_texts, text_of}
 use Rattle.mp_params.proofs.Faults.{IsNext, next_at, fault_next, entries_next, settings_err, settings_ok, unless_ok, unless_err}
 use Rattle.mp_params.proofs.settings.settings.Goals as goal
 
 pub returns-in-Err : goal.returns-in-Err
 returns-in-Err c =
-    let lines = lines_of c.args.file.now in
+    let lines = line_texts c.args.file.now in
     let n = c.loop-line.number in
-    let line = c.in-Some.line.now in
-    let rest = lines_of c.in-Some.more.now in
+    let line = c.line_text.result.now in
+    let rest = line_texts c.in-Some.more.now in
     let inv = c.loop-line.invariant in
-    let next : IsNext lines n line rest [] = next_at lines n line rest [] (inv.rest ∙ c.in-Some.ensures.some) in
+    let here : line_texts c.loop-line.rest.now ≡ line ∷ rest = ap (map text_of) c.in-Some.ensures.lines ∙ ap (λ (says : List ℕ). says ∷ rest) (sym c.line_text.ensures) in
+    let next : IsNext lines n line rest [] = next_at lines n line rest [] (inv.rest ∙ here) in
     let earlier = c.deref.result.now in
     let fault : line_fault (n + 1) earlier line ≡ Some c.in-Err.fault = unless_err _ (entry_of line) _ (sym c.judged.ensures ∙ c.in-Err.is) in
     settings_err lines n c.in-Err.fault next.within inv.clean (fault_next lines n line rest earlier next (c.deref.ensures.value ∙ inv.entries) ∙ fault)
 
 pub loop-line-preserved : goal.loop-line-preserved
 loop-line-preserved c =
-    let lines = lines_of c.args.file.now in
+    let lines = line_texts c.args.file.now in
     let n = c.loop-line.number in
-    let line = c.in-Some.line.now in
-    let rest = lines_of c.in-Some.more.now in
+    let line = c.line_text.result.now in
+    let rest = line_texts c.in-Some.more.now in
     let inv = c.loop-line.invariant in
-    let next : IsNext lines n line rest [] = next_at lines n line rest [] (inv.rest ∙ c.in-Some.ensures.some) in
+    let here : line_texts c.loop-line.rest.now ≡ line ∷ rest = ap (map text_of) c.in-Some.ensures.lines ∙ ap (λ (says : List ℕ). says ∷ rest) (sym c.line_text.ensures) in
+    let next : IsNext lines n line rest [] = next_at lines n line rest [] (inv.rest ∙ here) in
     let earlier = c.deref.result.now in
     let both = unless_ok (line_fault (n + 1) earlier line) (entry_of line) c.in-Ok.setting (sym c.judged.ensures ∙ c.in-Ok.is) in
     record {
       rest = next.rest;
       entries = c.in_ok-add-in-Ok.ensures ∙ entries_next lines n line rest c.loop-line.settings.items c.in-Ok.setting next inv.entries both.1;
       clean = below_more (λ k. fault_at lines k ≡ None) n inv.clean (fault_next lines n line rest earlier next (c.deref.ensures.value ∙ inv.entries) ∙ both.0);
-      few = omega (arith, inv.few, c.in-Some.ensures.shorter);
+      few = omega (arith, inv.few, c.in-Some.ensures.less);
     }
 
 pub returns : goal.returns
 returns c =
-    let lines = lines_of c.args.file.now in
+    let lines = line_texts c.args.file.now in
     let n = c.loop-line.number in
     let inv = c.loop-line.invariant in
-    let none : drop n lines ≡ [] = inv.rest ∙ c.in_default.ensures.none in
+    let none : drop n lines ≡ [] = inv.rest ∙ ap (map text_of) c.in_default.ensures.none in
     let past : length lines ≤ n = omega (arith, ap length none, length-drop n lines) in
     settings_ok lines (λ k below. inv.clean k (omega arith)) ∙ ap Ok (ap entries_of (sym (take_all n lines past)) ∙ sym inv.entries)

@@ -1,6 +1,0 @@
-use Rattle.std.proofs.Common.{◌≡◌, ◌<◌, ℕ, false, get_or}
-use Rattle.mp_base.specs.Number.{is_mark}
-use Rattle.mp_base.proofs.spelling.mark_at.Given as goal
-
-abbrev pub invariant-loop-place : goal.invariant-loop-place
-invariant-loop-place l = (k : ℕ) → k < l.place → is_mark (get_or l.text k 0) ≡ false

@@ -1,0 +1,4 @@
+pub mod Digits
+pub mod Sizes
+pub mod Values
+pub mod ReadBack

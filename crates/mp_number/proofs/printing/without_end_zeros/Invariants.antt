@@ -1,0 +1,13 @@
+use Rattle.std.proofs.Common.{◌≡◌, ◌+◌, ◌≤◌, length, take}
+use Rattle.std.specs.List.{suffix_len}
+use Rattle.mp_number.specs.Number.{is_zero_digit}
+use Rattle.mp_number.proofs.printing.without_end_zeros.Given as goal
+
+abbrev pub invariant-loop-end : goal.invariant-loop-end
+invariant-loop-end l = record {
+  within : l.end ≤ length l.digits;
+  same : l.end + suffix_len is_zero_digit l.digits ≡ length l.digits + suffix_len is_zero_digit (take l.end l.digits);
+}
+
+abbrev pub decreases-loop-end : goal.decreases-loop-end
+decreases-loop-end l = l.end

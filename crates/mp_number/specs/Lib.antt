@@ -1,0 +1,3 @@
+-- What is promised of numbers that are read and printed.
+pub mod Number
+pub mod Spaced

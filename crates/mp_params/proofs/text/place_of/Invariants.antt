@@ -1,6 +1,0 @@
-use Rattle.std.proofs.Common.{◌≡◌, ◌<◌, ℕ, false, get_or}
-use Rattle.std.specs.Prelude.{◌==◌}
-use Rattle.mp_params.proofs.text.place_of.Given as goal
-
-abbrev pub invariant-loop-place : goal.invariant-loop-place
-invariant-loop-place l = (k : ℕ) → k < l.place → (get_or l.text k 0 == l.wanted) ≡ false

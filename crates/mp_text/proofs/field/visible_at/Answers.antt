@@ -1,0 +1,10 @@
+use Rattle.std.proofs.Common.{arith, sym, ap, ◌∙◌, not}
+use Rattle.std.proofs.lemmas.List.Sums.{position_or_len_is}
+use Rattle.mp_text.specs.Fields.{is_visible}
+use Rattle.mp_text.proofs.field.visible_at.Goals as goal
+
+pub returns-then-not-is_blank-clause-place : goal.returns-then-not-is_blank-clause-place
+returns-then-not-is_blank-clause-place c = sym (position_or_len_is is_visible c.args.text.now c.loop-place.place 0 (omega arith) c.loop-place.invariant (λ within. ap not (sym c.is_blank.ensures) ∙ ap not c.if-not-is_blank.true))
+
+pub returns-clause-place : goal.returns-clause-place
+returns-clause-place c = sym (position_or_len_is is_visible c.args.text.now _ 0 (omega arith) (λ k below. c.loop-place.invariant k (omega arith)) (λ within. absurd (omega arith)))

@@ -1,0 +1,8 @@
+-- One step after another, up to the first error.
+use Rattle.std.specs.Prelude.{Result, Ok, Err}
+
+-- what follows, unless there is an error
+infixl 10 ◌>>=◌
+abbrev pub ◌>>=◌ : {A B E : Type 0} → Result A E → (A → Result B E) → Result B E
+(Ok x) >>= next = next x
+(Err e) >>= next = Err e

@@ -1,0 +1,5 @@
+pub mod Gathered
+pub mod NameBytes
+pub mod ValueTexts
+pub mod Spaced
+pub mod Back
