@@ -4,7 +4,7 @@ use Rattle.std.specs.Prelude.{IsTrue, IsOk, IsOkAnd}
 use Rattle.mp_outside.specs.Causes.{Rose, SameCounts}
 use Rattle.mp_outside.specs.Contents.{Held, SameHeld}
 use Rattle.mps_inputs.specs.Answers.{Causes, Ends, Finishes, HoldsFront, HoldsText, IsFront, IsPart, IsInputFault, IsRefusal, IsWhole, LeavesFiles, LeavesOut, OfOutput, Serves, WritesTo, seen}
-use Rattle.mps_inputs.specs.Chain.{◌>>=◌}
+use Rattle.mp_text.specs.Chain.{◌>>=◌}
 use Rattle.mps_inputs.specs.Done.{Done, Output}
 use Rattle.mp_outside.specs.Seen.{FilesSeen, SinkSeen}
 use Rattle.mps_inputs.specs.declared.fault.Fault.{Fault}

@@ -5,7 +5,7 @@ use Rattle.std.specs.Str.{bytes_eq}
 use Rattle.std.proofs.lemmas.Bool.{false≢true, lt-ltb}
 use Rattle.std.proofs.lemmas.List.{length-take}
 use Rattle.std.proofs.lemmas.Slice.Eq.{bytes_eq-Decides}
-use Rattle.gslib_grid.specs.LongFiles.{table_of_front}
+use Rattle.gslib_grid.proofs.LongFiles.{table_of_front}
 use Rattle.gslib_grid.specs.declared.row.Table.{Table}
 use Rattle.gslib_grid.specs.declared.fault.TableFault.{TableFault}
 use Rattle.mp_outside.specs.Causes.{Rose}
@@ -15,7 +15,7 @@ use Rattle.mp_params.specs.Reading.{params_of}
 use Rattle.mp_params.specs.declared.fault.ParamsFault.{ParamsFault}
 use Rattle.mp_params.specs.declared.fault.ParamsFault.TheVariants.{TooLong}
 use Rattle.mps_inputs.specs.Answers.{IsInputFault, IsRefusal}
-use Rattle.mps_inputs.specs.Chain.{◌>>=◌}
+use Rattle.mp_text.specs.Chain.{◌>>=◌}
 use Rattle.mps_inputs.specs.Files.{IsReadFault}
 use Rattle.mps_inputs.specs.Inputs.{codes_in, if_built, image_in, image_with, judged, parameters_in, points_in, points_with, read_as, wanted_image, wanted_points}
 use Rattle.mp_outside.specs.Seen.{FilesSeen, OnlyReads, without}

@@ -13,7 +13,8 @@ use Rattle.mp_params.specs.Values.{is_between}
 use Rattle.seq_engine.specs.Setup.{IsSetup}
 use Rattle.template_order.specs.Reach.{radii_in}
 use Rattle.template_order.specs.Template.{IsSmall}
-use Rattle.mps_inputs.specs.Setup.{category_counts, setup_of, shares_of, target_of}
+use Rattle.mp_base.specs.Cells.{category_counts}
+use Rattle.mps_inputs.specs.Setup.{setup_of, shares_of, target_of}
 
 between : (low high n : ℕ) → is_between low high n ≡ true → (low ≤ n) × (n ≤ high)
 between low high n is = (grind (arith, nat_tests), grind (arith, nat_tests))

@@ -7,7 +7,7 @@ use Rattle.seq_engine.specs.declared.setup.RunError.{RunError}
 use Rattle.seq_engine.specs.declared.setup.RunError.TheVariants as run
 use Rattle.seq_engine.specs.declared.setup.Setup.{Setup}
 use Rattle.mps_inputs.specs.Answers.{IsRefusal}
-use Rattle.mps_inputs.specs.Chain.{◌>>=◌}
+use Rattle.mp_text.specs.Chain.{◌>>=◌}
 use Rattle.mps_inputs.specs.Setup.{positions_of, run_fault}
 use Rattle.mps_inputs.specs.declared.fault.Fault.{Fault}
 use Rattle.mps_inputs.specs.declared.fault.Fault.TheVariants.{Usage, CannotRead, CannotWrite, OutOfMemory, CannotReport}

@@ -16,7 +16,7 @@ use Rattle.mp_params.specs.declared.fault.ParamsError.{ParamsError}
 use Rattle.mp_params.specs.declared.fault.ParamsError.TheVariants as error
 use Rattle.mp_params.specs.Reading.{params_of}
 use Rattle.mp_outside.specs.Contents.{Held}
-use Rattle.mps_inputs.specs.Chain.{◌>>=◌}
+use Rattle.mp_text.specs.Chain.{◌>>=◌}
 use Rattle.mps_inputs.specs.declared.fault.Fault.{Fault}
 use Rattle.mps_inputs.specs.declared.fault.Fault.TheVariants.{Parameters, NotBuilt, CannotRead, Image, Points, OutOfMemory}
 use Rattle.mps_inputs.specs.declared.fault.Part.TheVariants as part

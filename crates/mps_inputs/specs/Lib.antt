@@ -7,5 +7,4 @@ pub mod Done
 pub mod Answers
 pub mod Files
 -- What helps to say it.
-pub mod Chain
 pub mod Judged

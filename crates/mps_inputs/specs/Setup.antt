@@ -1,7 +1,7 @@
 -- The simulation that parameters, an image and hard data ask for.
 use Rattle.std.specs.Prelude.{ℕ, false, nat_lt, List, length, sum, replicate, Option, Some, None, Result, Ok, Err, if◌then◌else◌}
 use Rattle.std.specs.Option.{option_map_or}
-use Rattle.mp_base.specs.Counts.{tally}
+use Rattle.mp_base.specs.Cells.{category_counts}
 use Rattle.mp_base.specs.Grid.{Field}
 use Rattle.mp_params.specs.Params.{ParamsValue}
 use Rattle.template_order.specs.Reach.{radii_in}
@@ -13,10 +13,6 @@ use Rattle.seq_engine.specs.declared.setup.Setup.{Setup}
 use Rattle.mps_inputs.specs.declared.fault.Fault.{Fault}
 use Rattle.mps_inputs.specs.declared.fault.Fault.TheVariants.{TooFewPositions, OutOfMemory}
 use Rattle.mps_inputs.specs.declared.inputs.Inputs.{Inputs}
-
--- how many cells have each category
-abbrev pub category_counts : ℕ → List (Option ℕ) → List ℕ
-category_counts cats cells = tally (λ v. v) cats cells
 
 -- the counts as shares; an image without a known cell is never simulated, so any shares serve it
 abbrev pub shares_of : ℕ → List ℕ → List ℕ

@@ -2,7 +2,8 @@
 ghost use Rattle.std.specs.Prelude.{◌≡◌, ◌≤◌, All, IfOk, length, replicate};
 ghost use Rattle.mp_base.specs.Grid.{IsBelow};
 ghost use Rattle.seq_engine.specs.Setup.{IsSetup};
-ghost use Rattle.mps_inputs.specs.Setup.{category_counts, setup_of as setup_with, shares_of, target_of as target_with};
+ghost use Rattle.mp_base.specs.Cells.{category_counts};
+ghost use Rattle.mps_inputs.specs.Setup.{setup_of as setup_with, shares_of, target_of as target_with};
 
 use mp_base::{Counts, Grid, NoMemory};
 use mp_params::Params;

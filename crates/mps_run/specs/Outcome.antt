@@ -1,7 +1,7 @@
 -- What `run` comes to, once its inputs are accepted.
 use Rattle.std.specs.Prelude.{ℕ, List, Some, Result, Ok}
 use Rattle.realisation_out.specs.Report.{report_text}
-use Rattle.mps_inputs.specs.Chain.{◌>>=◌}
+use Rattle.mp_text.specs.Chain.{◌>>=◌}
 use Rattle.mps_inputs.specs.Done.{Done}
 use Rattle.mps_inputs.specs.Setup.{positions_of, setup_for}
 use Rattle.mps_inputs.specs.declared.fault.Fault.{Fault}

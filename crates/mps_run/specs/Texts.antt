@@ -1,6 +1,7 @@
 -- What `run` writes: the text of the output file, and what the report tells.
 use Rattle.std.specs.Prelude.{◌≡◌, ℕ, List, ◌++◌, flat_map, map}
 use Rattle.std.specs.List.{range_with_len}
+use Rattle.mp_base.specs.Cells.{category_counts}
 use Rattle.mp_base.specs.Grid.{Field}
 use Rattle.mp_params.specs.Params.{ParamsValue}
 use Rattle.realisation_out.specs.Text.{head_text, rows_text}
@@ -8,7 +9,7 @@ use Rattle.realisation_out.specs.declared.report.Report.{Report}
 use Rattle.seq_engine.specs.Realisation.{realised}
 use Rattle.seq_engine.specs.declared.setup.Setup.{Setup}
 use Rattle.mps_inputs.specs.Inputs.{codes_in}
-use Rattle.mps_inputs.specs.Setup.{category_counts, setup_for}
+use Rattle.mps_inputs.specs.Setup.{setup_for}
 use Rattle.mps_inputs.specs.Judged.{IsJudged}
 use Rattle.mps_inputs.specs.declared.inputs.Inputs.{Inputs}
 use Rattle.mps_inputs.specs.declared.judging.Judged.{Judged}

@@ -9,7 +9,7 @@ use Rattle.ti_scan.specs.Rising.{RisesFrom, next_from as next_datum}
 use Rattle.mps_scan.specs.declared.coded.CodedDatum.{CodedDatum}
 use Rattle.mps_scan.specs.Coded.{positions_rise, next_from, IsCoded}
 use Rattle.mps_scan.specs.Words.{decoded, is_datum}
-use Rattle.mps_scan.proofs.Places.{none_any, some_any, some_is}
+use Rattle.mp_text.proofs.Places.{none_any, some_any, some_is}
 
 refused : {X : Type 0} (a b : Bool) (x : X) → b ≡ false → None ≡ cond (a && b) (Some x) None
 refused true b x fails = ap (λ c. cond c (Some x) None) (sym fails)

@@ -1,4 +1,3 @@
-pub mod Places
 pub mod CodedLemmas
 pub mod Parts
 pub mod Fitting

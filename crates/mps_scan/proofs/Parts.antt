@@ -5,10 +5,11 @@ use Rattle.std.specs.List.{after_first, before_first, position_or_len, slice_spl
 use Rattle.std.proofs.lemmas.List.{append_assoc, append-nil, drop_all}
 use Rattle.std.proofs.lemmas.List.Splits.{slice_split_first, slice_split_none}
 use Rattle.std.proofs.lemmas.List.Sums.{fails_before_first}
+use Rattle.mp_base.specs.Number.{short_number}
 use Rattle.mp_params.specs.Values.{all_read, where_so}
 use Rattle.mps_scan.specs.declared.coded.CodedDatum.{CodedDatum}
 use Rattle.mps_scan.specs.Coded.{coded, positions_rise, next_position}
-use Rattle.mps_scan.specs.Words.{code_of, data_in, datum_of, is_comma, is_equals, number_of, position_of, with_datum, with_part}
+use Rattle.mps_scan.specs.Words.{code_of, data_in, datum_of, is_comma, is_equals, position_of, with_datum, with_part}
 use Rattle.mps_scan.proofs.CodedLemmas.{rise-append}
 
 -- the event with further data, where the positions rise
@@ -86,7 +87,7 @@ nothing_then (Some x) = refl
 
 -- without a `=` there is no datum
 pub no_datum : (text : List ℕ) → position_or_len is_equals text ≡ length text → None ≡ datum_of text
-unfolding datum_of code_of number_of
+unfolding datum_of code_of short_number
 no_datum text none =
     let behind : after_first is_equals text ≡ [] = drop_all (position_or_len is_equals text + 1) text (omega (arith, none)) in
     sym (ap (λ (xs : List ℕ). option_and_then (λ position. option_map (coded position) (code_of xs)) (position_of (before_first is_equals text))) behind ∙ nothing_then (position_of (before_first is_equals text)))

@@ -15,7 +15,7 @@ use Rattle.seq_engine.specs.declared.setup.RunError.TheVariants as run
 use Rattle.seq_engine.specs.declared.setup.Setup.{Setup}
 use Rattle.ti_scan.specs.declared.event.Datum.{Datum}
 use Rattle.mps_inputs.specs.Answers.{Causes, IsUsage, LeavesFiles, LeavesOut, Serves, WritesTo, seen}
-use Rattle.mps_inputs.specs.Chain.{◌>>=◌}
+use Rattle.mp_text.specs.Chain.{◌>>=◌}
 use Rattle.mps_inputs.specs.Inputs.{if_built, image_in, image_with, inputs_with, is_built, judged, parameters_in, points_in, points_of, points_with, read_as, tables_of, with_points}
 use Rattle.mps_inputs.specs.Done.{Done}
 use Rattle.mps_scan.specs.Outcome.{scan_done, scan_of, scan_tables, scan_under}

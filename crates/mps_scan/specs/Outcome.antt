@@ -3,7 +3,7 @@ use Rattle.std.specs.Prelude.{ℕ, List, None, Result, Ok}
 use Rattle.mp_outside.specs.Contents.{Held}
 use Rattle.mp_params.specs.Params.{ParamsValue}
 use Rattle.ti_scan.specs.declared.event.Datum.{Datum}
-use Rattle.mps_inputs.specs.Chain.{◌>>=◌}
+use Rattle.mp_text.specs.Chain.{◌>>=◌}
 use Rattle.mps_inputs.specs.Done.{Done}
 use Rattle.mps_inputs.specs.Inputs.{parameters_in, read_as, tables_of}
 use Rattle.mps_inputs.specs.Setup.{positions_of, setup_for}

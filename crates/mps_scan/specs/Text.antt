@@ -3,6 +3,7 @@ use Rattle.std.specs.Prelude.{◌≡◌, ℕ, ◌+◌, List, [], ◌∷◌, ◌+
 use Rattle.std.specs.Fmt.{decimal}
 use Rattle.std.specs.List.{range_with_len}
 use Rattle.mp_base.specs.Grid.{Field, field}
+use Rattle.mp_base.specs.Spaced.{behind_spaces}
 use Rattle.mp_params.specs.declared.store.StoreChoice.{StoreChoice}
 use Rattle.mp_params.specs.Printing.{store_text}
 use Rattle.ti_scan.specs.declared.event.Datum.{Datum}
@@ -12,13 +13,9 @@ use Rattle.event_retrieve.specs.Retrieval.{retained, reach}
 use Rattle.seq_engine.specs.declared.setup.Setup.{Setup}
 use Rattle.seq_engine.specs.Realisation.{level_plan}
 
--- each number behind a space
-abbrev pub numbers_text : List ℕ → List ℕ
-numbers_text numbers = flat_map (λ n. codes " " ++ decimal n) numbers
-
 -- the word and the numbers by category
 abbrev pub counts_text : List ℕ → List ℕ
-counts_text counts = codes " counts" ++ numbers_text counts
+counts_text counts = codes " counts" ++ behind_spaces decimal counts
 
 -- the kind of the store, and how many nodes or entries it has
 abbrev pub store_line : StoreChoice → ℕ → List ℕ

@@ -1,10 +1,10 @@
 -- The words of `scan` after the parameter file: a level, and a data event by positions and codes; and how they fit the parameters.
-use Rattle.std.specs.Prelude.{ℕ, ℤ, Bool, ◌&&◌, ◌==◌, nat_le, List, [], ◌∷◌, ◌++◌, length, drop, map, Option, Some, None, option_map, option_and_then, if◌then◌else◌, codes}
+use Rattle.std.specs.Prelude.{ℕ, ℤ, Bool, ◌&&◌, ◌==◌, nat_le, List, [], ◌∷◌, ◌++◌, drop, map, Option, Some, None, option_map, option_and_then, if◌then◌else◌, codes}
 use Rattle.std.specs.List.{after_first, before_first, list_all, position_or_len, slice_split}
 use Rattle.std.specs.Ordering.{int_eq}
 use Rattle.std.specs.Str.{bytes_eq}
-use Rattle.std.specs.Str.Parse.{digits_value, starts_with_minus}
-use Rattle.mp_base.specs.Number.{all_digits, signed}
+use Rattle.std.specs.Str.Parse.{starts_with_minus}
+use Rattle.mp_base.specs.Number.{short_number, signed}
 use Rattle.mp_params.specs.Values.{all_read, is_between, is_code, where_so}
 use Rattle.ti_scan.specs.declared.event.Datum.{Datum}
 use Rattle.mps_scan.specs.declared.coded.CodedDatum.{CodedDatum}
@@ -19,25 +19,17 @@ is_comma b = b == 44
 abbrev pub is_equals : ℕ → Bool
 is_equals b = b == 61
 
--- one to `most` digits
-abbrev pub are_few_digits : ℕ → List ℕ → Bool
-are_few_digits most text = all_digits text && is_between 1 most (length text)
-
--- the number that one to `most` digits write
-unfoldable pub number_of : ℕ → List ℕ → Option ℕ
-number_of most text = if are_few_digits most text then Some (digits_value 10 text) else None
-
 -- the number, where it is from 1 to `last`
 abbrev pub up_to : ℕ → Option ℕ → Option ℕ
 up_to last number = option_and_then (where_so (is_between 1 last)) number
 
 -- a level: one to four digits, from 1 to 8
 abbrev pub level_of : List ℕ → Option ℕ
-level_of text = up_to 8 (number_of 4 text)
+level_of text = up_to 8 (short_number 4 text)
 
 -- a template position: one or two digits, from 1 to 64
 abbrev pub position_of : List ℕ → Option ℕ
-position_of text = up_to 64 (number_of 2 text)
+position_of text = up_to 64 (short_number 2 text)
 
 -- without the `-` in front, if there is one
 abbrev pub without_minus : List ℕ → List ℕ
@@ -45,7 +37,7 @@ without_minus text = if starts_with_minus text then drop 1 text else text
 
 -- a code: one to nine digits, with or without a `-` in front
 unfoldable pub code_of : List ℕ → Option ℤ
-code_of text = option_map (signed (starts_with_minus text)) (number_of 9 (without_minus text))
+code_of text = option_map (signed (starts_with_minus text)) (short_number 9 (without_minus text))
 
 -- a datum: a position, a `=` and a code
 unfoldable pub datum_of : List ℕ → Option CodedDatum

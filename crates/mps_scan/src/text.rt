@@ -3,10 +3,10 @@ ghost use Rattle.std.specs.Prelude.{◌≡◌, ◌++◌, ◌≤◌, OnErr, OnOk,
 ghost use Rattle.std.specs.Fmt.{decimal};
 ghost use Rattle.mp_params.specs.declared.store.StoreChoice.TheVariants as stores;
 ghost use Rattle.ti_scan.specs.Event.{IsEvent, StandsFor};
-ghost use Rattle.mps_scan.specs.Text.{counts_text, kept_line, numbers_text, prefix_line, prefix_lines, retained_line, scan_text, store_line};
+ghost use Rattle.mps_scan.specs.Text.{counts_text, kept_line, prefix_line, prefix_lines, retained_line, scan_text, store_line};
 
 use event_retrieve::{LevelPlan, retain};
-use mp_base::{Counts, NoMemory, push_whole};
+use mp_base::{Counts, NoMemory, push_behind_spaces, push_whole};
 use ti_scan::{CountStore, Event};
 
 /// Appends what `scan` tells of an event: the number of the tree's nodes, the counts of each prefix
@@ -101,16 +101,5 @@ fn push_counts(to: &mut Vec<u8>, counts: &Counts) -> Result<(), NoMemory>
     ensures { OnOk result (to.new.items ≡ to.old.items ++ counts_text counts.now) }
 {
     to.extend_from_slice(b" counts")?;
-    push_numbers(to, counts.as_slice())
-}
-
-// Each number behind a space.
-fn push_numbers(to: &mut Vec<u8>, numbers: &[u32]) -> Result<(), NoMemory>
-    ensures { OnOk result (to.new.items ≡ to.old.items ++ numbers_text numbers.now) }
-{
-    for number in numbers {
-        to.push(b' ')?;
-        push_whole(to, i128::from(*number))?;
-    }
-    Ok(())
+    push_behind_spaces(to, counts.as_slice())
 }

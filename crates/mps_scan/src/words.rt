@@ -1,13 +1,13 @@
 // The words of `scan` after the parameter file.
-ghost use Rattle.std.specs.Prelude.{◌≡◌, ◌==◌, ◌<◌, ◌≤◌, Some, None, IfNone, IfSome, true, if◌then◌else◌, length};
-ghost use Rattle.std.specs.List.{after_first, before_first, position, position_or_len};
-ghost use Rattle.std.specs.Str.Parse.{digits_value};
-ghost use Rattle.mp_base.specs.Number.{all_digits};
+ghost use Rattle.std.specs.Prelude.{◌≡◌, ◌≤◌, Some, None, IfSome, true, if◌then◌else◌};
+ghost use Rattle.mp_base.specs.Number.{short_number};
 ghost use Rattle.multigrid.specs.Levels.{IsLevel};
 ghost use Rattle.mps_scan.specs.Coded.{positions_rise};
-ghost use Rattle.mps_scan.specs.Words.{are_few_digits, code_of, data_in, datum_of, event_in, number_of, scan_words, up_to, with_part};
+ghost use Rattle.mps_scan.specs.Words.{code_of, data_in, datum_of, event_in, scan_words, up_to, with_part};
 
 use crate::coded::{CodedDatum, CodedEvent};
+use mp_base::short_number;
+use mp_text::cut;
 
 // The greatest level and the greatest position of a template.
 const MAX_LEVEL: u8 = 8;
@@ -68,26 +68,6 @@ fn data_of(word: &[u8]) -> Option<CodedEvent>
     }
 }
 
-// What stands before and behind the first such byte, or nothing where there is none.
-fn cut(text: &[u8], at: u8) -> Option<(&[u8], &[u8])>
-    ensures none { IfNone result (position_or_len (λ b. b == at) text.now ≡ length text.now) }
-    ensures some { IfSome result (λ _. position_or_len (λ b. b == at) text.now < length text.now) }
-    ensures before { IfSome result (λ parts. parts.0.now ≡ before_first (λ b. b == at) text.now) }
-    ensures behind { IfSome result (λ parts. parts.1.now ≡ after_first (λ b. b == at) text.now) }
-{
-    let Some(place) = place_of(text, at) else {
-        return None;
-    };
-    Some((&text[..place], &text[place + 1..]))
-}
-
-// The place of the first such byte.
-fn place_of(text: &[u8], wanted: u8) -> Option<usize>
-    ensures { result ≡ position (λ b. b == wanted) text.now }
-{
-    text.iter().position(|byte| *byte == wanted)
-}
-
 // Adds the datum that a text is, where it is one at a position beyond all others, and says whether
 // it did.
 fn push_part(event: &mut CodedEvent, text: &[u8]) -> bool
@@ -127,11 +107,11 @@ fn code_of(text: &[u8]) -> Option<i32>
     ensures { result ≡ code_of text.now }
 {
     match text {
-        [b'-', digits @ ..] => match number(digits, 9) {
+        [b'-', digits @ ..] => match short_number(digits, 9) {
             Some(size) => Some(-(size as i32)),
             None => None,
         },
-        _ => match number(text, 9) {
+        _ => match short_number(text, 9) {
             Some(size) => Some(size as i32),
             None => None,
         },
@@ -141,57 +121,16 @@ fn code_of(text: &[u8]) -> Option<i32>
 // The number from 1 to `last` that one to `most` digits write.
 fn number_up_to(text: &[u8], most: usize, last: u8) -> Option<u8>
     requires { most ≤ 9 }
-    ensures value { result ≡ up_to last (number_of most text.now) }
+    ensures value { result ≡ up_to last (short_number most text.now) }
     ensures some { IfSome result (λ number. 1 ≤ number) }
     ensures few { IfSome result (λ number. number ≤ last) }
 {
-    let Some(number) = number(text, most) else {
+    let Some(number) = short_number(text, most) else {
         return None;
     };
-    if 1 <= number && number <= u32::from(last) {
+    if 1 <= number && number <= u128::from(last) {
         Some(number as u8)
     } else {
         None
     }
-}
-
-// The number that one to `most` digits write.
-#[tactic(auto, unfolding(crate::specs::Words::number_of))]
-fn number(text: &[u8], most: usize) -> Option<u32>
-    requires { most ≤ 9 }
-    ensures value { result ≡ number_of most text.now }
-    ensures few { IfSome result (λ number. number ≤ 999999999) }
-{
-    if are_few_digits(text, most) {
-        Some(digits_value(text))
-    } else {
-        None
-    }
-}
-
-fn are_few_digits(text: &[u8], most: usize) -> bool
-    ensures { result ≡ are_few_digits most text.now }
-{
-    are_digits(text) && 1 <= text.len() && text.len() <= most
-}
-
-// Whether all bytes are digits.
-fn are_digits(text: &[u8]) -> bool
-    ensures { result ≡ all_digits text.now }
-{
-    text.iter().all(|byte| byte.is_ascii_digit())
-}
-
-// What at most nine digits are worth.
-fn digits_value(digits: &[u8]) -> u32
-    requires digits { all_digits digits.now ≡ true }
-    requires few { length digits.now ≤ 9 }
-    ensures value { result ≡ digits_value 10 digits.now }
-    ensures few { result ≤ 999999999 }
-{
-    let mut value = 0;
-    for digit in digits {
-        value = value * 10 + u32::from(*digit - b'0');
-    }
-    value
 }

@@ -1,7 +1,7 @@
 -- What judged inputs come to.
 use Rattle.std.proofs.Common.{◌≡◌, sym, ◌∙◌, ap, ℕ, List, None, Result, Ok}
 use Rattle.mps_inputs.specs.Answers.{IsRefusal}
-use Rattle.mps_inputs.specs.Chain.{◌>>=◌}
+use Rattle.mp_text.specs.Chain.{◌>>=◌}
 use Rattle.mps_inputs.specs.Judged.{IsJudged}
 use Rattle.mps_inputs.specs.Setup.{positions_of, setup_for}
 use Rattle.mps_inputs.specs.declared.fault.Fault.{Fault}

@@ -4,7 +4,7 @@ use Rattle.std.specs.Prelude.{IsOk, IsOkAnd, ok_or}
 use Rattle.mp_outside.specs.Causes.{Rose}
 use Rattle.mp_outside.specs.Contents.{Held}
 use Rattle.mps_inputs.specs.Answers.{Causes, IsDone, IsUsage, IsWhole, Serves, seen}
-use Rattle.mps_inputs.specs.Chain.{◌>>=◌}
+use Rattle.mp_text.specs.Chain.{◌>>=◌}
 use Rattle.mps_inputs.specs.Done.{Done}
 use Rattle.mps_top.specs.Outcome.{outcome_for, outcome_of}
 use Rattle.mp_outside.specs.Seen.{FilesSeen, SinkSeen}

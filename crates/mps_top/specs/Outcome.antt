@@ -1,7 +1,7 @@
 -- What a command comes to where no call of the outside fails: its first refusal, or what it writes.
 use Rattle.std.specs.Prelude.{ℕ, List, None, Result, Ok, ok_or}
 use Rattle.mp_outside.specs.Contents.{Held}
-use Rattle.mps_inputs.specs.Chain.{◌>>=◌}
+use Rattle.mp_text.specs.Chain.{◌>>=◌}
 use Rattle.mps_inputs.specs.Done.{Done}
 use Rattle.mps_inputs.specs.Inputs.{inputs_of}
 use Rattle.mps_inputs.specs.Setup.{positions_of, setup_for}

@@ -2,7 +2,7 @@ use Rattle.std.proofs.Common.{ap, sym, ◌∙◌, Result, Ok}
 use Rattle.std.proofs.lemmas.Result.{err_from_is_err_and}
 use Rattle.hard_data.specs.declared.points.Placed.{Placed}
 use Rattle.mp_outside.specs.Contents.{Held}
-use Rattle.mps_inputs.specs.Chain.{◌>>=◌}
+use Rattle.mp_text.specs.Chain.{◌>>=◌}
 use Rattle.mps_inputs.specs.Inputs.{points_of, with_points}
 use Rattle.mps_inputs.specs.declared.fault.Fault.{Fault}
 use Rattle.mps_inputs.proofs.Reading.{first_refused}

@@ -3,7 +3,7 @@ use Rattle.std.proofs.lemmas.Result.{err_from_is_err_and}
 use Rattle.std.proofs.Common.{sym, subst, List, Result}
 use Rattle.ti_scan.specs.declared.event.Datum.{Datum}
 use Rattle.mps_inputs.specs.Answers.{Serves, seen}
-use Rattle.mps_inputs.specs.Chain.{◌>>=◌}
+use Rattle.mp_text.specs.Chain.{◌>>=◌}
 use Rattle.mps_scan.specs.Outcome.{scan_tables}
 use Rattle.mps_inputs.specs.declared.fault.Fault.{Fault}
 use Rattle.mps_scan.proofs.command.scan_under.Goals as goal

@@ -8,7 +8,7 @@ use Rattle.mps_scan.specs.declared.coded.CodedDatum.{CodedDatum}
 use Rattle.mps_scan.specs.Coded.{coded}
 use Rattle.mps_scan.specs.Words.{decoded, is_datum}
 use Rattle.mps_scan.proofs.Fitting.{may_follow, rises_within}
-use Rattle.mps_scan.proofs.Places.{chosen}
+use Rattle.mp_text.proofs.Places.{chosen}
 use Rattle.mps_scan.proofs.fit.fitting_event.Goals as goal
 
 pub push-requires-clause-after : goal.push-requires-clause-after
