@@ -3,14 +3,15 @@ use Rattle.std.proofs.Common.{◌≡◌, ◌⊎◌, inl, inr, refl, sym, ◌∙�
 use Rattle.std.specs.Prelude.{IsOk, IsOkAnd, ok_or}
 use Rattle.mp_outside.specs.Causes.{Rose}
 use Rattle.mp_outside.specs.Contents.{Held}
-use Rattle.mps_top.specs.Answers.{Causes, IsUsage, IsWhole, Serves}
-use Rattle.mps_top.specs.Chain.{◌>>=◌}
-use Rattle.mps_top.specs.Outcome.{Done, outcome_for, outcome_of}
-use Rattle.mps_top.specs.Seen.{FilesSeen, SinkSeen}
-use Rattle.mps_top.specs.Status.{status_of, status_of_fault}
+use Rattle.mps_inputs.specs.Answers.{Causes, IsDone, IsUsage, IsWhole, Serves, seen}
+use Rattle.mp_text.specs.Chain.{◌>>=◌}
+use Rattle.mps_inputs.specs.Done.{Done}
+use Rattle.mps_top.specs.Outcome.{outcome_for, outcome_of}
+use Rattle.mp_outside.specs.Seen.{FilesSeen, SinkSeen}
+use Rattle.mps_inputs.specs.Status.{status_of, status_of_fault}
 use Rattle.mps_top.specs.Words.{command_of}
-use Rattle.mps_top.specs.declared.fault.Fault.{Fault}
-use Rattle.mps_top.specs.declared.fault.Fault.TheVariants.{Usage, CannotRead, CannotWrite, OutOfMemory, CannotReport}
+use Rattle.mps_inputs.specs.declared.fault.Fault.{Fault}
+use Rattle.mps_inputs.specs.declared.fault.Fault.TheVariants.{Usage, CannotRead, CannotWrite, OutOfMemory, CannotReport}
 use Rattle.mps_top.specs.declared.words.Command.{Command}
 use Rattle.mps_top.specs.declared.words.Command.TheVariants.{Run, Check}
 
@@ -20,20 +21,20 @@ told_outcome command held = ok_or command Usage >>= λ c. outcome_for c held
 
 module _ (words : List (List ℕ)) (before now : FilesSeen) (out_before out_now : SinkSeen) where
   -- words that are a command
-  pub served : (command : Command) (answer : Result (Unit {0}) Fault) → command_of words ≡ Some command → Serves (outcome_for command) before now out_before out_now answer → Serves (outcome_of words) before now out_before out_now answer
-  served command answer is serves = subst (λ (c : Option Command). Serves (told_outcome c) before now out_before out_now answer) (sym is) serves
+  pub served : (command : Command) (answer : Result (Unit {0}) Fault) → command_of words ≡ Some command → Serves (outcome_for command) (seen before out_before) (seen now out_now) answer → Serves (outcome_of words) (seen before out_before) (seen now out_now) answer
+  served command answer is serves = subst (λ (c : Option Command). Serves (told_outcome c) (seen before out_before) (seen now out_now) answer) (sym is) serves
 
   -- words that are none
-  pub refused : command_of words ≡ None → Serves (outcome_of words) before before out_before out_before (Err Usage)
+  pub refused : command_of words ≡ None → Serves (outcome_of words) (seen before out_before) (seen before out_before) (Err Usage)
   refused is =
-      subst (λ (c : Option Command). Serves (told_outcome c) before before out_before out_before (Err Usage)) (sym is)
+      subst (λ (c : Option Command). Serves (told_outcome c) (seen before out_before) (seen before out_before) (Err Usage)) (sym is)
       (record { cause = ((before.held, refl), λ told. refl); files = λ told name. refl; out = λ told. refl })
 
 -- The causes of statuses, by counts.
 
 module _ (outcome : Held → Result Done Fault) (before now : FilesSeen) (out_before out_now : SinkSeen) where
   abbrev Cause : Result (Unit {0}) Fault → Type 0
-  Cause answer = Causes outcome before now out_before out_now answer
+  Cause answer = Causes outcome (seen before out_before) (seen now out_now) answer
 
   pub usage_cause : (answer : Result (Unit {0}) Fault) → Cause answer → status_of answer ≡ 1 → IsUsage outcome before
   usage_cause (Err Usage) cause is = cause
@@ -68,7 +69,7 @@ module _ (outcome : Held → Result Done Fault) (held_before held_now : Held) (w
   sink written = record { tells = true; written = written; faults = 0 }
 
   abbrev InMemory : Result (Unit {0}) Fault → Type 0
-  InMemory answer = Serves outcome (files held_before) (files held_now) (sink written_before) (sink written_now) answer
+  InMemory answer = Serves outcome (seen (files held_before) (sink written_before)) (seen (files held_now) (sink written_now)) answer
 
   some_status : (fault : Fault) → status_of_fault fault ≡ 0 → ⊥
   some_status Usage is = omega arith
@@ -91,6 +92,6 @@ module _ (outcome : Held → Result Done Fault) (held_before held_now : Held) (w
   both (Ok done) whole out = (whole, out)
   both (Err fault) whole out = whole
 
-  pub done_in_memory : (answer : Result (Unit {0}) Fault) → InMemory answer → status_of answer ≡ 0 → IsOkAnd (outcome held_before) (λ done. IsWhole held_before held_now done × (written_now ≡ written_before ++ done.out))
+  pub done_in_memory : (answer : Result (Unit {0}) Fault) → InMemory answer → status_of answer ≡ 0 → IsDone outcome held_before held_now written_before written_now
   done_in_memory (Ok u) serves is = both (outcome held_before) (serves.files refl) (serves.out refl refl)
   done_in_memory (Err fault) serves is = absurd (some_status fault is)

@@ -1,16 +1,4 @@
+-- The promise: the words of a command, and what it comes to.
 pub mod Words
-pub mod Chain
-pub mod Inputs
-pub mod Setup
-pub mod Judged
-pub mod Texts
 pub mod Outcome
-pub mod Status
-pub mod Lines
-pub mod Seen
-pub mod Answers
-pub mod Files
-pub mod Coded
-pub mod ScanWords
-pub mod ScanText
-pub mod Scanning
+pub mod Texts

@@ -1,11 +1,16 @@
 -- The words of a command.
-use Rattle.std.specs.Prelude.{⊤, ℕ, Bool, ◌&&◌, not, nat_lt, nat_le, ◌==◌, List, [], ◌∷◌, length, Option, Some, None, option_map, if◌then◌else◌, codes, slice_index}
+use Rattle.std.specs.Prelude.{⊤, ℕ, Bool, ◌&&◌, not, nat_lt, nat_le, ◌==◌, List, [], ◌∷◌, length, Option, Some, None, option_map, if◌then◌else◌, codes, map, slice_index, string_bytes, String}
 use Rattle.std.specs.List.{list_all}
 use Rattle.std.specs.Str.{bytes_eq}
+use Rattle.std.specs.declared.alloc.Global.{Global}
 use Rattle.multigrid.specs.Levels.{IsLevel}
-use Rattle.mps_top.specs.ScanWords.{scan_words}
+use Rattle.mps_scan.specs.Words.{scan_words}
 use Rattle.mps_top.specs.declared.words.Command.{Command}
 use Rattle.mps_top.specs.declared.words.Command.TheVariants.{Run, Check, Scan}
+
+-- the bytes of each word
+abbrev pub texts : List (String Global) → List (List ℕ)
+texts words = map (λ word. string_bytes word) words
 
 -- from the space to the tilde
 abbrev pub is_name_byte : ℕ → Bool

@@ -1,28 +1,30 @@
 // The top call.
-ghost use Rattle.std.specs.Prelude.{◌≡◌, ◌⊎◌, ◌++◌, ℕ, List, IsOkAnd, None, map, string_bytes, IsTrue, Err};
-ghost use Rattle.mp_outside.specs.Causes.{Rose};
+ghost use Rattle.std.specs.Prelude.{◌≡◌, ◌⊎◌, ℕ, List, None, Err};
 ghost use Rattle.mp_outside.specs.NoFault.{content, sink_bytes};
-ghost use Rattle.mps_top.specs.Answers.{IsAnswer, IsTold, IsUsage, IsWhole, Serves};
+ghost use Rattle.mp_outside.specs.Seen.{ReadFailed, SinkFailed, WriteFailed};
+ghost use Rattle.mps_inputs.specs.Answers.{Ends, IsAnswer, IsDone, IsTold, IsUsage, Serves, seen};
+ghost use Rattle.mps_inputs.specs.Inputs.{IsInputs};
+ghost use Rattle.mps_inputs.specs.Status.{status_of, status_of_fault};
+ghost use Rattle.mps_run.specs.Outcome.{run_of};
 ghost use Rattle.mps_top.specs.Outcome.{outcome_for, outcome_of};
-ghost use Rattle.mps_top.specs.Seen.{files_seen, sink_seen};
-ghost use Rattle.mps_top.specs.Status.{status_of, status_of_fault};
-ghost use Rattle.mps_top.specs.Words.{HasLevel, command_of as command_of_words};
+ghost use Rattle.mps_top.specs.Words.{HasLevel, command_of as command_of_words, texts};
+ghost use Rattle.mps_top.specs.declared.words.Command.TheVariants.{Run};
 
 use crate::check::check;
-use crate::fault::Fault;
-use crate::line::fault_line;
-use crate::run::run;
-use crate::scan::scan;
-use crate::status::{fault_status, status};
 use crate::words::{Command, command_of};
 use mp_outside::{Files, NoFaultFiles, NoFaultSink, Sink};
+use mps_inputs::{Fault, Inputs, Name, fault_line, fault_status, judge, read_inputs, status};
+use mps_run::write_run;
+use mps_scan::scan;
+use seq_engine::{OneThread, StoreKind};
 use std::alloc::Global;
 use std::thread::Threads;
 
-/// Serves the command that the words give, and answers the exit status. Where nothing fails this is
-/// the command's outcome: its first refusal, or 0 with exactly its text in the output file and its
-/// text on `out`. A fault is told on `err`, its line in one write. Only files that the command
-/// names are read, and none but its output is written.
+/// Serves the command that the words give, and answers the exit status. That is the status of the
+/// command's outcome: of its first refusal, or 0 with exactly its text in the output file and its text
+/// on `out`. Only where a read, a write or a write to `out` failed in this call it may be 3, 4 or 9,
+/// and 8 wherever memory ran out. No file but the command's output is changed. A fault's line is added
+/// to `err`: the whole line, or a front of it where that write failed, or nothing for want of memory.
 pub fn answer_alone<R: Threads, F: Files, O: Sink, E: Sink>(
     rt: &R,
     alloc: Global,
@@ -31,12 +33,12 @@ pub fn answer_alone<R: Threads, F: Files, O: Sink, E: Sink>(
     out: &mut O,
     err: &mut E,
 ) -> u8
-    ensures answer { IsAnswer (outcome_of (map (λ w. string_bytes w) words.now)) (files_seen F.tells F.held F.reads F.writes files.old) (files_seen F.tells F.held F.reads F.writes files.new) (sink_seen O.tells O.written O.faults out.old) (sink_seen O.tells O.written O.faults out.new) (sink_seen E.tells E.written E.faults err.old) (sink_seen E.tells E.written E.faults err.new) result }
-    ensures usage { result ≡ 1 → IsUsage (outcome_of (map (λ w. string_bytes w) words.now)) (files_seen F.tells F.held F.reads F.writes files.old) }
-    ensures no_command { command_of_words (map (λ w. string_bytes w) words.now) ≡ None → result ≡ 1 }
-    ensures read_cause { result ≡ 3 → (name : List ℕ) × Rose (F.reads files.old name) (F.reads files.new name) }
-    ensures write_cause { result ≡ 4 → (name : List ℕ) × Rose (F.writes files.old name) (F.writes files.new name) }
-    ensures report_cause { result ≡ 9 → Rose (O.faults out.old) (O.faults out.new) }
+    ensures answer { IsAnswer (outcome_of (texts words.now)) (seen (F.seen files.old) (O.seen out.old)) (seen (F.seen files.new) (O.seen out.new)) (E.seen err.old) (E.seen err.new) result }
+    ensures usage { result ≡ 1 → IsUsage (outcome_of (texts words.now)) (F.seen files.old) }
+    ensures no_command { command_of_words (texts words.now) ≡ None → result ≡ 1 }
+    ensures read_cause { result ≡ 3 → (name : List ℕ) × ReadFailed name (F.seen files.old) (F.seen files.new) }
+    ensures write_cause { result ≡ 4 → (name : List ℕ) × WriteFailed name (F.seen files.old) (F.seen files.new) }
+    ensures report_cause { result ≡ 9 → SinkFailed (O.seen out.old) (O.seen out.new) }
 {
     let answer = serve(rt, alloc, words, files, out);
     if let Err(fault) = &answer {
@@ -55,8 +57,8 @@ pub fn answer_in_memory<R: Threads>(
     out: &mut NoFaultSink,
     err: &mut NoFaultSink,
 ) -> u8
-    ensures status { (result ≡ 8) ⊎ (result ≡ status_of (outcome_of (map (λ w. string_bytes w) words.now) (content files.old))) }
-    ensures done { result ≡ 0 → IsOkAnd (outcome_of (map (λ w. string_bytes w) words.now) (content files.old)) (λ done. IsWhole (content files.old) (content files.new) done × (sink_bytes out.new ≡ sink_bytes out.old ++ done.out)) }
+    ensures status { (result ≡ 8) ⊎ (result ≡ status_of (outcome_of (texts words.now) (content files.old))) }
+    ensures done { result ≡ 0 → IsDone (outcome_of (texts words.now)) (content files.old) (content files.new) (sink_bytes out.old) (sink_bytes out.new) }
 {
     answer_alone(rt, alloc, words, files, out, err)
 }
@@ -69,8 +71,8 @@ fn serve<R: Threads, F: Files, O: Sink>(
     files: &mut F,
     out: &mut O,
 ) -> Result<(), Fault>
-    ensures usage { command_of_words (map (λ w. string_bytes w) words.now) ≡ None → result ≡ Err Fault.Usage }
-    ensures serves { Serves (outcome_of (map (λ w. string_bytes w) words.now)) (files_seen F.tells F.held F.reads F.writes files.old) (files_seen F.tells F.held F.reads F.writes files.new) (sink_seen O.tells O.written O.faults out.old) (sink_seen O.tells O.written O.faults out.new) result }
+    ensures usage { command_of_words (texts words.now) ≡ None → result ≡ Err Fault.Usage }
+    ensures serves { Serves (outcome_of (texts words.now)) (seen (F.seen files.old) (O.seen out.old)) (seen (F.seen files.new) (O.seen out.new)) result }
 {
     match command_of(words) {
         Some(command) => serve_command(rt, alloc, &command, files, out),
@@ -87,7 +89,7 @@ fn serve_command<R: Threads, F: Files, O: Sink>(
     out: &mut O,
 ) -> Result<(), Fault>
     requires { HasLevel command.now }
-    ensures { Serves (outcome_for command.now) (files_seen F.tells F.held F.reads F.writes files.old) (files_seen F.tells F.held F.reads F.writes files.new) (sink_seen O.tells O.written O.faults out.old) (sink_seen O.tells O.written O.faults out.new) result }
+    ensures { Serves (outcome_for command.now) (seen (F.seen files.old) (O.seen out.old)) (seen (F.seen files.new) (O.seen out.new)) result }
 {
     match command {
         Command::Run { parameters } => run(rt, alloc, files, out, parameters),
@@ -96,10 +98,40 @@ fn serve_command<R: Threads, F: Files, O: Sink>(
     }
 }
 
+// Reads and judges the inputs of a run, and then runs them.
+fn run<R: Threads, F: Files, O: Sink>(
+    rt: &R,
+    alloc: Global,
+    files: &mut F,
+    out: &mut O,
+    parameters: &Name,
+) -> Result<(), Fault>
+    ensures { Serves (outcome_for (Run parameters.now)) (seen (F.seen files.old) (O.seen out.old)) (seen (F.seen files.new) (O.seen out.new)) result }
+{
+    let inputs = read_inputs(alloc, files, parameters)?;
+    run_inputs(rt, alloc, files, out, inputs)
+}
+
+// Judges accepted inputs. What runs their levels is made behind that, by the parameters.
+fn run_inputs<R: Threads, F: Files, O: Sink>(
+    rt: &R,
+    alloc: Global,
+    files: &mut F,
+    out: &mut O,
+    inputs: Inputs,
+) -> Result<(), Fault>
+    requires { IsInputs inputs }
+    ensures { Ends (run_of inputs) (seen (F.seen files.old) (O.seen out.old)) (seen (F.seen files.new) (O.seen out.new)) result }
+{
+    let judged = judge(alloc, inputs)?;
+    let mut runner = OneThread::new(rt, StoreKind::Tree);
+    write_run(alloc, files, out, judged, &mut runner)
+}
+
 /// Tells a fault that came before any command could be served, and answers its status.
 pub fn refuse<E: Sink>(fault: &Fault, err: &mut E) -> u8
     ensures status { result ≡ status_of_fault fault.now }
-    ensures told { IsTrue (E.tells err.old) → IsTold (E.written err.old) (E.written err.new) (E.faults err.old) (E.faults err.new) (Err fault.now) }
+    ensures told { IsTold (E.seen err.old) (E.seen err.new) (Err fault.now) }
 {
     tell(fault, err);
     fault_status(fault)
@@ -107,7 +139,7 @@ pub fn refuse<E: Sink>(fault: &Fault, err: &mut E) -> u8
 
 // Tells a fault. Where that fails the status stays as it is, so the answer of the write is left.
 fn tell<E: Sink>(fault: &Fault, err: &mut E)
-    ensures { IsTrue (E.tells err.old) → IsTold (E.written err.old) (E.written err.new) (E.faults err.old) (E.faults err.new) (Err fault.now) }
+    ensures { IsTold (E.seen err.old) (E.seen err.new) (Err fault.now) }
 {
     let _ = err.write(fault_line(fault).as_str().as_bytes());
 }

@@ -1,6 +1,6 @@
 // Commands over files in memory.
-use crate::answer_alone;
-use mp_outside::{CallKind, MemFiles, MemSink};
+use crate::{answer_alone, answer_in_memory};
+use mp_outside::{CallKind, MemFiles, MemSink, NoFaultFiles, NoFaultSink};
 use std::alloc::Global;
 use std::test::Fail;
 use std::thread::Threads;
@@ -43,10 +43,15 @@ fn serve<R: Threads>(
     name: &str,
     fails: bool,
 ) -> Result<Ended, Fail> {
+    let words = two_words(alloc, verb, name)?;
+    serve_words(rt, alloc, files, &words, fails)
+}
+
+fn two_words(alloc: Global, verb: &str, name: &str) -> Result<Vec<String>, Fail> {
     let mut words = Vec::new(alloc);
     words.push(String::from_str(alloc, verb)?)?;
     words.push(String::from_str(alloc, name)?)?;
-    serve_words(rt, alloc, files, &words, fails)
+    Ok(words)
 }
 
 fn serve_words<R: Threads>(
@@ -88,6 +93,27 @@ fn a_run_writes_its_realisation(rt: HostRuntime) -> Result<(), Fail> {
         assert!(rt; ended.err.is_empty());
         assert_eq!(rt; ended.out.as_slice(), REPORT.as_bytes());
         assert_eq!(rt; files.get("out.dat").unwrap_or(b""), REALISATION.as_bytes());
+    }
+    Ok(())
+}
+
+#[test]
+fn over_files_that_never_fail_a_run_is_the_same(rt: HostRuntime) -> Result<(), Fail> {
+    for (image, wanted, file, report) in [
+        (IMAGE, 0, REALISATION, REPORT),
+        ("line\n1\nfacies\n7\n", 5, "", ""),
+    ] {
+        let mut files = NoFaultFiles::new(rt.alloc());
+        files.put("p1", PARAMETERS.as_bytes())?;
+        files.put("ti.dat", image.as_bytes())?;
+        let words = two_words(rt.alloc(), "run", "p1")?;
+        let mut out = NoFaultSink::new(rt.alloc());
+        let mut err = NoFaultSink::new(rt.alloc());
+        let status = answer_in_memory(&rt, rt.alloc(), &words, &mut files, &mut out, &mut err);
+        assert_eq!(rt; status, wanted);
+        assert_eq!(rt; files.get("out.dat").unwrap_or(b""), file.as_bytes());
+        assert_eq!(rt; out.bytes(), report.as_bytes());
+        assert_eq!(rt; err.bytes().is_empty(), wanted == 0);
     }
     Ok(())
 }
@@ -332,14 +358,9 @@ fn a_check_tells_what_the_inputs_are(rt: HostRuntime) -> Result<(), Fail> {
     Ok(())
 }
 
-const EIGHT_CELLS: &str =
-    "image = t4.dat\nimage_shape = 8 1 1\ncategories = 0 1\ngrid = 5 1 1\nradii = 2 0 0\ntemplate = 4\nmin_replicates = 2\noutput = out.dat\n";
-
-// Three files of the commands `scan`: two of parameters, and the image of the second.
+// Two files of parameters, and their image.
 fn scan_files(alloc: Global) -> Result<MemFiles, Fail> {
     let mut files = two_files(alloc, PARAMETERS, IMAGE)?;
-    files.put("p4", EIGHT_CELLS.as_bytes())?;
-    files.put("t4.dat", b"line\n1\nfacies\n0\n0\n1\n1\n0\n1\n0\n0\n")?;
     files.put("p5", FIVE_REPLICATES.as_bytes())?;
     Ok(files)
 }
@@ -354,9 +375,7 @@ fn scan<R: Threads>(
     event: &str,
     fails: bool,
 ) -> Result<Ended, Fail> {
-    let mut words = Vec::new(alloc);
-    words.push(String::from_str(alloc, "scan")?)?;
-    words.push(String::from_str(alloc, name)?)?;
+    let mut words = two_words(alloc, "scan", name)?;
     words.push(String::from_str(alloc, level)?)?;
     words.push(String::from_str(alloc, event)?)?;
     serve_words(rt, alloc, files, &words, fails)
@@ -364,27 +383,17 @@ fn scan<R: Threads>(
 
 #[test]
 fn a_scan_tells_the_replicates_of_an_event(rt: HostRuntime) -> Result<(), Fail> {
-    for (name, event, text) in [
-        (
-            "p1",
-            "1=1",
-            "store tree 6\nprefix 0 counts 1 3\nprefix 1 counts 1 1\nretained 1 reach 2 counts 1 1\n",
-        ),
-        (
-            "p4",
-            "1=0,3=1",
-            "store tree 15\nprefix 0 counts 1 3\nprefix 1 counts 0 2\nprefix 2 counts 0 1\nretained 1 reach 3 counts 0 2\n",
-        ),
-    ] {
-        let mut files = scan_files(rt.alloc())?;
-        let ended = scan(&rt, rt.alloc(), &mut files, name, "1", event, false)?;
-        assert_eq!(rt; ended.status, 0);
-        assert_eq!(rt; ended.out.as_slice(), text.as_bytes());
-        assert!(rt; ended.err.is_empty() && files.get("out.dat").is_none());
-        let ended = scan(&rt, rt.alloc(), &mut files, name, "1", event, true)?;
-        assert_eq!(rt; ended.status, 9);
-        assert!(rt; ended.out.is_empty());
-    }
+    let mut files = scan_files(rt.alloc())?;
+    let ended = scan(&rt, rt.alloc(), &mut files, "p1", "1", "1=1", false)?;
+    assert_eq!(rt; ended.status, 0);
+    assert_eq!(rt;
+        ended.out.as_slice(),
+        b"store tree 6\nprefix 0 counts 1 3\nprefix 1 counts 1 1\nretained 1 reach 2 counts 1 1\n".as_slice()
+    );
+    assert!(rt; ended.err.is_empty() && files.get("out.dat").is_none());
+    let ended = scan(&rt, rt.alloc(), &mut files, "p1", "1", "1=1", true)?;
+    assert_eq!(rt; ended.status, 9);
+    assert!(rt; ended.out.is_empty());
     Ok(())
 }
 

@@ -1,48 +1,16 @@
-// The texts that commands write.
-ghost use Rattle.std.specs.Prelude.{◌≡◌, ◌++◌, All, IfOk, IsSome, OnOk, count_by, is_some, length, string_bytes};
-ghost use Rattle.mp_base.specs.Grid.{IsBelow};
+// The text of `check`.
+ghost use Rattle.std.specs.Prelude.{◌≡◌, ◌++◌, IfOk, OnOk, count_by, is_some, string_bytes};
 ghost use Rattle.realisation_out.specs.Report.{level_lines};
-ghost use Rattle.realisation_out.specs.Text.{head_text as head_of, rows_text as rows_of};
-ghost use Rattle.mps_top.specs.Judged.{IsJudged};
+ghost use Rattle.mps_inputs.specs.Judged.{IsJudged};
+ghost use Rattle.mps_inputs.specs.declared.inputs.Inputs.{Inputs};
 ghost use Rattle.mps_top.specs.Texts.{check_text as check_text_of, image_line as image_line_of};
-ghost use Rattle.mps_top.specs.declared.inputs.Inputs.{Inputs};
 
-use crate::inputs::codes_of;
-use crate::judge::Judged;
 use arrayvec::ArrayVec;
 use mp_base::{CellId, Grid, NoMemory};
 use mp_params::{Params, print_params};
-use realisation_out::{push_head, push_level_lines, push_points_line, push_rows};
+use mps_inputs::Judged;
+use realisation_out::{push_level_lines, push_points_line};
 use std::alloc::{AllocError, Global};
-
-/// The opening of the realisation file.
-pub fn head_text(alloc: Global, parameters: &Params) -> Result<Vec<u8>, NoMemory>
-    ensures { IfOk result (λ text. text.items ≡ head_of parameters.now.grid parameters.now.realisations parameters.now.seed) }
-{
-    let mut text = Vec::new(alloc);
-    push_head(
-        &mut text,
-        parameters.grid,
-        parameters.realisations,
-        parameters.seed,
-    )?;
-    Ok(text)
-}
-
-/// The rows of a realisation.
-pub fn rows_text(
-    alloc: Global,
-    parameters: &Params,
-    realisation: &Grid,
-) -> Result<Vec<u8>, NoMemory>
-    requires known { All IsSome realisation.now.cells }
-    requires below { All (IsBelow (length parameters.now.categories)) realisation.now.cells }
-    ensures { IfOk result (λ text. text.items ≡ rows_of parameters.now.categories realisation.now.cells) }
-{
-    let mut text = Vec::new(alloc);
-    push_rows(&mut text, realisation, &codes_of(parameters))?;
-    Ok(text)
-}
 
 /// The text that `check` tells: the parameters, the image, the points, and the nodes and eroded
 /// positions of each level.

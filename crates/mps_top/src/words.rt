@@ -1,9 +1,9 @@
 // The words of a command.
-ghost use Rattle.std.specs.Prelude.{◌≡◌, ◌≤◌, IfSome, map, length, string_bytes};
-ghost use Rattle.mps_top.specs.Words.{HasLevel, command_of as command_of_words, command_over as command_over_name, is_file as is_file_text, is_name as is_name_text, scan_over as scan_over_words};
+ghost use Rattle.std.specs.Prelude.{◌≡◌, ◌≤◌, IfSome, length};
+ghost use Rattle.mps_top.specs.Words.{HasLevel, command_of as command_of_words, command_over as command_over_name, is_file as is_file_text, is_name as is_name_text, scan_over as scan_over_words, texts};
 
-use crate::fault::Name;
-use crate::scan_words::{ScanWords, read_scan_words};
+use mps_inputs::Name;
+use mps_scan::{ScanWords, read_scan_words};
 
 /// A command, with what its words say.
 #[derive(Drop)]
@@ -19,7 +19,7 @@ pub enum Command {
 /// The command that the words are, or nothing exactly where they are none.
 #[tactic(auto, unfolding(crate::specs::Words::command_of))]
 pub fn command_of(words: &[String]) -> Option<Command>
-    ensures command { result ≡ command_of_words (map (λ w. string_bytes w) words.now) }
+    ensures command { result ≡ command_of_words (texts words.now) }
     ensures level { IfSome result HasLevel }
 {
     match words {

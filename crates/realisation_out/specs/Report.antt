@@ -3,20 +3,13 @@ use Rattle.std.specs.Prelude.{ℕ, ◌++◌, ℤ, List, length, flat_map, revers
 use Rattle.std.specs.Fmt.{decimal, signed_decimal}
 use Rattle.std.specs.List.{enumerate_from}
 use Rattle.mp_base.specs.Grid.{Sides}
+use Rattle.mp_base.specs.Spaced.{behind_spaces}
 use Rattle.multigrid.specs.Levels.{nodes_of}
 use Rattle.realisation_out.specs.declared.report.Report.{Report}
 
--- numbers, each behind a space
-abbrev pub spaced : List ℕ → List ℕ
-spaced numbers = flat_map (λ n. codes " " ++ decimal n) numbers
-
--- codes, each behind a space
-abbrev pub spaced_codes : List ℤ → List ℕ
-spaced_codes categories = flat_map (λ code. codes " " ++ signed_decimal code) categories
-
 -- the codes of the categories, in the order of their indices
 abbrev pub categories_line : List ℤ → List ℕ
-categories_line categories = codes "categories" ++ (spaced_codes categories ++ codes "\n")
+categories_line categories = codes "categories" ++ (behind_spaces signed_decimal categories ++ codes "\n")
 
 -- the sides of the grid
 abbrev pub grid_line : Sides → List ℕ
@@ -28,12 +21,15 @@ points_line rows used skipped = codes "points " ++ (decimal rows ++ (codes " use
 
 -- the parts of the target
 abbrev pub target_line : List ℕ → List ℕ
-target_line parts = codes "target" ++ (spaced parts ++ codes "\n")
+target_line parts = codes "target" ++ (behind_spaces decimal parts ++ codes "\n")
 
--- the nodes and the eroded positions of a level
+-- a level with its numbers of nodes and of eroded positions
+abbrev pub numbers_line : ℕ → ℕ → ℕ → List ℕ
+numbers_line level nodes positions = codes "level " ++ (decimal level ++ (codes " nodes " ++ (decimal nodes ++ (codes " positions " ++ (decimal positions ++ codes "\n")))))
+
+-- the same of a level of a grid
 abbrev pub level_line : Sides → ℕ × ℕ → List ℕ
-level_line sides level =
-    codes "level " ++ (decimal level.0 ++ (codes " nodes " ++ (decimal (length (nodes_of sides level.0)) ++ (codes " positions " ++ (decimal level.1 ++ codes "\n")))))
+level_line sides level = numbers_line level.0 (length (nodes_of sides level.0)) level.1
 
 -- the line of each level, from the coarsest to the finest: the positions are by level, the finest first
 unfoldable pub level_lines : Sides → List ℕ → List ℕ
@@ -41,7 +37,7 @@ level_lines sides positions = flat_map (level_line sides) (reverse (enumerate_fr
 
 -- how many cells of a realisation have each category
 abbrev pub realisation_line : ℕ × List ℕ → List ℕ
-realisation_line realisation = codes "realisation " ++ (decimal realisation.0 ++ (codes " counts" ++ (spaced realisation.1 ++ codes "\n")))
+realisation_line realisation = codes "realisation " ++ (decimal realisation.0 ++ (codes " counts" ++ (behind_spaces decimal realisation.1 ++ codes "\n")))
 
 -- the line of each realisation, from 0
 unfoldable pub realisation_lines : List (List ℕ) → List ℕ

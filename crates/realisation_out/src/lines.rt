@@ -1,10 +1,10 @@
 // The lines of a report.
 ghost use Rattle.std.specs.Prelude.{◌≡◌, ◌++◌, ◌≤◌, IfOk, OnErr, OnOk, codes, length, string_bytes};
-ghost use Rattle.std.specs.Fmt.{decimal, signed_decimal};
+ghost use Rattle.std.specs.Fmt.{decimal};
 ghost use Rattle.multigrid.specs.Levels.{IsLevel};
-ghost use Rattle.realisation_out.specs.Report.{categories_line, grid_line, level_line as line_of_level, level_lines, points_line as line_of_points, realisation_line as line_of_realisation, realisation_lines, spaced, spaced_codes, target_line};
+ghost use Rattle.realisation_out.specs.Report.{categories_line, grid_line, level_line as line_of_level, level_lines, numbers_line, points_line as line_of_points, realisation_line as line_of_realisation, realisation_lines, target_line};
 
-use mp_base::{Counts, NoMemory, Shape, push_whole};
+use mp_base::{Counts, NoMemory, Shape, push_behind_spaces};
 use multigrid::node_count;
 use std::alloc::{AllocError, Global};
 
@@ -66,7 +66,7 @@ fn put_level(to: &mut Vec<u8>, shape: Shape, level: u8, positions: u32) -> Resul
 }
 
 fn level_line(alloc: Global, level: u8, nodes: u32, positions: u32) -> Result<String, AllocError>
-    ensures { IfOk result (λ line. string_bytes line ≡ codes "level " ++ (decimal level ++ (codes " nodes " ++ (decimal nodes ++ (codes " positions " ++ (decimal positions ++ codes "\n")))))) }
+    ensures { IfOk result (λ line. string_bytes line ≡ numbers_line level nodes positions) }
 {
     format!(in alloc; "level {level} nodes {nodes} positions {positions}\n")
 }
@@ -78,7 +78,7 @@ pub fn put_categories(to: &mut Vec<u8>, categories: &[i32]) -> Result<(), NoMemo
     ensures { OnOk result (to.new.items ≡ to.old.items ++ categories_line categories.now) }
 {
     to.extend_from_slice(b"categories")?;
-    put_codes(to, categories)?;
+    push_behind_spaces(to, categories)?;
     to.push(b'\n')?;
     Ok(())
 }
@@ -104,7 +104,7 @@ pub fn put_target(to: &mut Vec<u8>, parts: &[u32]) -> Result<(), NoMemory>
     ensures { OnOk result (to.new.items ≡ to.old.items ++ target_line parts.now) }
 {
     to.extend_from_slice(b"target")?;
-    put_numbers(to, parts)?;
+    push_behind_spaces(to, parts)?;
     to.push(b'\n')?;
     Ok(())
 }
@@ -124,7 +124,7 @@ fn put_realisation(to: &mut Vec<u8>, number: usize, counts: &[u32]) -> Result<()
 {
     let head = realisation_head(*to.allocator(), number)?;
     to.extend_from_slice(head.as_bytes())?;
-    put_numbers(to, counts)?;
+    push_behind_spaces(to, counts)?;
     to.push(b'\n')?;
     Ok(())
 }
@@ -133,31 +133,4 @@ fn realisation_head(alloc: Global, number: usize) -> Result<String, AllocError>
     ensures { IfOk result (λ head. string_bytes head ≡ codes "realisation " ++ (decimal number ++ codes " counts")) }
 {
     format!(in alloc; "realisation {number} counts")
-}
-
-// Appends codes, each behind a space.
-fn put_codes(to: &mut Vec<u8>, categories: &[i32]) -> Result<(), NoMemory>
-    ensures { OnOk result (to.new.items ≡ to.old.items ++ spaced_codes categories.now) }
-{
-    for code in categories {
-        put_number(to, i128::from(*code))?;
-    }
-    Ok(())
-}
-
-// Appends numbers, each behind a space.
-fn put_numbers(to: &mut Vec<u8>, numbers: &[u32]) -> Result<(), NoMemory>
-    ensures { OnOk result (to.new.items ≡ to.old.items ++ spaced numbers.now) }
-{
-    for number in numbers {
-        put_number(to, i128::from(*number))?;
-    }
-    Ok(())
-}
-
-fn put_number(to: &mut Vec<u8>, number: i128) -> Result<(), NoMemory>
-    ensures { OnOk result (to.new.items ≡ to.old.items ++ (codes " " ++ signed_decimal number)) }
-{
-    to.push(b' ')?;
-    push_whole(to, number)
 }

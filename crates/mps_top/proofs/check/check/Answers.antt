@@ -1,14 +1,23 @@
-use Rattle.mps_top.specs.Inputs.{inputs_of}
+use Rattle.mps_inputs.proofs.Ending.{inputs_refused}
+use Rattle.std.proofs.lemmas.Result.{err_from_is_err_and}
+use Rattle.mps_inputs.specs.Inputs.{inputs_of}
 use Rattle.mps_top.specs.Outcome.{check_of}
-use Rattle.mps_top.specs.Seen.{files_seen, sink_seen}
-use Rattle.mps_top.proofs.Ending.{inputs_accepted}
+use Rattle.mps_inputs.proofs.Ending.{inputs_accepted}
 use Rattle.mps_top.proofs.check.check.Goals as goal
 
-pub returns-in-Ok : goal.returns-in-Ok
-returns-in-Ok g c =
-    let before = files_seen g.F.Files.tells g.F.Files.held g.F.Files.reads g.F.Files.writes c.args.files.now in
-    let mid = files_seen g.F.Files.tells g.F.Files.held g.F.Files.reads g.F.Files.writes c.read_inputs.new.files in
-    let out = sink_seen g.O.Sink.tells g.O.Sink.written g.O.Sink.faults c.args.out.now in
-    let told = sink_seen g.O.Sink.tells g.O.Sink.written g.O.Sink.faults c.tell_inputs.new.out in
-    inputs_accepted (inputs_of c.args.parameters.now) check_of before mid out c.in-Ok.inputs mid told c.in-Ok.ensures.read c.in-Ok.ensures.only.tells_same c.in-Ok.ensures.only.held_same
-    c.in-Ok.ensures.only.writes_same c.tell_inputs.result (c.tell_inputs.ensures mid)
+pub returns : goal.returns
+returns g c =
+    let before = g.F.Files.seen c.args.files.now in
+    let mid = g.F.Files.seen c.read_inputs.new.files in
+    let out = g.O.Sink.seen c.args.out.now in
+    let told = g.O.Sink.seen c.tell_inputs.new.out in
+    inputs_accepted (inputs_of c.args.parameters.now) check_of before mid out c.in_ok-inputs.inputs mid told c.in_ok-inputs.ensures.read c.in_ok-inputs.ensures.only.tells_same c.in_ok-inputs.ensures.only.held_same
+    c.in_ok-inputs.ensures.only.writes_same c.tell_inputs.result (c.tell_inputs.ensures mid)
+
+pub returns-in_err-inputs : goal.returns-in_err-inputs
+returns-in_err-inputs g c =
+    let before = g.F.Files.seen c.args.files.now in
+    let mid = g.F.Files.seen c.read_inputs.new.files in
+    let e = err_from_is_err_and c.from_residual.result c.from_residual.ensures.1 in
+    rw (e.1, e.2)
+    (inputs_refused (inputs_of c.args.parameters.now) check_of before mid (g.O.Sink.seen c.args.out.now) c.in_err-inputs.field-0.0 c.in_err-inputs.ensures.fault c.in_err-inputs.ensures.only.held_same)

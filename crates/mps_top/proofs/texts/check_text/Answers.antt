@@ -2,9 +2,9 @@ use Rattle.std.proofs.Common.{◌≡◌, ap, refl, ◌∙◌, ℕ, List, ◌++�
 use Rattle.mp_params.specs.Printing.{print_text}
 use Rattle.realisation_out.specs.Report.{level_lines, points_line}
 use Rattle.seq_engine.specs.declared.setup.Setup.{Setup}
-use Rattle.mps_top.specs.Setup.{setup_for, setup_of}
+use Rattle.mps_inputs.specs.Setup.{setup_for, setup_of}
 use Rattle.mps_top.specs.Texts.{check_text, image_line}
-use Rattle.mps_top.specs.declared.inputs.Inputs.{Inputs}
+use Rattle.mps_inputs.specs.declared.inputs.Inputs.{Inputs}
 use Rattle.mps_top.proofs.texts.check_text.Goals as goal
 
 joined : (a b c d e : List ℕ) → (((a ++ b) ++ c) ++ d) ++ e ≡ a ++ (b ++ (c ++ (d ++ e)))

@@ -1,0 +1,9 @@
+pub mod Shares
+pub mod Ending
+pub mod Reading
+pub mod Setups
+pub mod Codes
+pub mod Images
+pub mod Points
+pub mod Stages
+pub mod Told

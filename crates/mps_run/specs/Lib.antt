@@ -1,0 +1,3 @@
+-- The promise: the file and the report of a run.
+pub mod Outcome
+pub mod Texts

@@ -1,0 +1,8 @@
+//! What `run` writes: the realisations one after another into the output file, and then the report.
+#![tactic(auto)]
+
+mod realisations;
+mod texts;
+mod writing;
+
+pub use writing::write_run;

@@ -1,0 +1,5 @@
+pub mod CodedLemmas
+pub mod Parts
+pub mod Fitting
+pub mod TextLemmas
+pub mod Scanning

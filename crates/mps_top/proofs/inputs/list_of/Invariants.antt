@@ -1,6 +1,0 @@
-use Rattle.std.proofs.Common.{◌≡◌, take}
-use Rattle.mps_top.proofs.inputs.list_of.Given as goal
-
--- the codes so far
-abbrev pub invariant-loop-code : goal.invariant-loop-code
-invariant-loop-code l = l.listed.items ≡ take l.code-index l.codes

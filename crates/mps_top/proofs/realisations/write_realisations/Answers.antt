@@ -1,6 +1,0 @@
-use Rattle.std.proofs.Common.{subst}
-use Rattle.std.specs.Prelude.{IsTrue}
-use Rattle.mps_top.proofs.realisations.write_realisations.Goals as goal
-
-pub fill_output-requires-clause-made : goal.fill_output-requires-clause-made
-fill_output-requires-clause-made g c = λ told. c.in-Ok.ensures.made (subst IsTrue c.in-Ok.ensures.only.tells_same told)

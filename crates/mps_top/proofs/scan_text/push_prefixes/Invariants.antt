@@ -1,7 +1,0 @@
-use Rattle.std.proofs.Common.{◌≡◌, ◌++◌}
-use Rattle.std.specs.List.{flat_map, range_with_len}
-use Rattle.mps_top.specs.ScanText.{prefix_line}
-use Rattle.mps_top.proofs.scan_text.push_prefixes.Given as goal
-
-abbrev pub invariant-loop-len : goal.invariant-loop-len
-invariant-loop-len g l = l.to.items ≡ l.initial.to.items ++ flat_map (prefix_line (g.S.CountStore.gives l.store) l.event) (range_with_len 0 l.len)

@@ -1,6 +1,0 @@
-use Rattle.std.specs.Prelude.{◌==◌}
-use Rattle.mps_top.proofs.Places.{none_passes}
-use Rattle.mps_top.proofs.scan_words.cut.Goals as goal
-
-pub returns-in_default-clause-none : goal.returns-in_default-clause-none
-returns-in_default-clause-none c = none_passes (λ b. b == c.args.at) c.args.text.now c.in_default.ensures
