@@ -6,36 +6,36 @@ use Rattle.std.specs.Str.{bytes_eq}
 use Rattle.std.proofs.lemmas.Bool.{and_parts, cases_Bool, not-true}
 use Rattle.std.proofs.lemmas.Slice.Eq.{bytes_eq-Decides}
 use Rattle.mp_params.specs.declared.table.Key.{Key}
-use Rattle.mp_params.specs.declared.table.Key.TheVariants.{Version, Image, ImageShape, ImageColumn, Categories, Missing, Grid, Origin, Size, Points, PointColumns, Radii, Template, MaxData, MinReplicates, Levels, Servo, Targets, Seed, Realisations, Store, Window, Output}
+use Rattle.mp_params.specs.declared.table.Key.TheVariants as key
 use Rattle.mp_params.specs.Lines.{Entry, given, is_key_text}
 use Rattle.mp_params.specs.Params.{ParamsValue}
 use Rattle.mp_params.specs.Printing.{entries_for, value_text}
 use Rattle.mp_params.specs.Table.{key_name, key_of, keys}
 
 pub key_found : (k : Key) → key_of (key_name k) ≡ Some k
-key_found Version = refl
-key_found Image = refl
-key_found ImageShape = refl
-key_found ImageColumn = refl
-key_found Categories = refl
-key_found Missing = refl
-key_found Grid = refl
-key_found Origin = refl
-key_found Size = refl
-key_found Points = refl
-key_found PointColumns = refl
-key_found Radii = refl
-key_found Template = refl
-key_found MaxData = refl
-key_found MinReplicates = refl
-key_found Levels = refl
-key_found Servo = refl
-key_found Targets = refl
-key_found Seed = refl
-key_found Realisations = refl
-key_found Store = refl
-key_found Window = refl
-key_found Output = refl
+key_found key.Version = refl
+key_found key.Image = refl
+key_found key.ImageShape = refl
+key_found key.ImageColumn = refl
+key_found key.Categories = refl
+key_found key.Missing = refl
+key_found key.Grid = refl
+key_found key.Origin = refl
+key_found key.Size = refl
+key_found key.Points = refl
+key_found key.PointColumns = refl
+key_found key.Radii = refl
+key_found key.Template = refl
+key_found key.MaxData = refl
+key_found key.MinReplicates = refl
+key_found key.Levels = refl
+key_found key.Servo = refl
+key_found key.Targets = refl
+key_found key.Seed = refl
+key_found key.Realisations = refl
+key_found key.Store = refl
+key_found key.Window = refl
+key_found key.Output = refl
 
 -- what holds of all keys holds of each
 found_all : (p q : Key → Bool) (ks : List Key) (k : Key) → find p ks ≡ Some k → list_all q ks ≡ true → q k ≡ true
@@ -50,7 +50,7 @@ found_all p q (j ∷ js) k found all =
       | inr isnt ↦ found_all p q js k (sym (ap (λ b. cond b (Some j) (find p js)) isnt) ∙ found) parts.1
     ]
 
-each_key : (q : Key → Bool) → list_all q keys ≡ true → (k : Key) → q k ≡ true
+pub each_key : (q : Key → Bool) → list_all q keys ≡ true → (k : Key) → q k ≡ true
 each_key q all k = found_all (λ j. bytes_eq (key_name j) (key_name k)) q keys k (key_found k) all
 
 pub key_text : (k : Key) → is_key_text (key_name k) ≡ true

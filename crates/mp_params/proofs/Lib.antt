@@ -5,3 +5,5 @@ pub mod Written
 pub mod Keys
 pub mod Clean
 pub mod Law
+pub mod Defaults
+pub mod Wholes

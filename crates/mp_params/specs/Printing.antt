@@ -6,36 +6,36 @@ use Rattle.mp_base.specs.Number.{micro_text}
 use Rattle.mp_base.specs.Spaced.{spaced}
 use Rattle.mp_values.specs.Texts.{number_text, sides_text, store_text}
 use Rattle.mp_params.specs.declared.table.Key.{Key}
-use Rattle.mp_params.specs.declared.table.Key.TheVariants.{Version, Image, ImageShape, ImageColumn, Categories, Missing, Grid, Origin, Size, Points, PointColumns, Radii, Template, MaxData, MinReplicates, Levels, Servo, Targets, Seed, Realisations, Store, Window, Output}
+use Rattle.mp_params.specs.declared.table.Key.TheVariants as key
 use Rattle.mp_params.specs.Lines.{Entry}
 use Rattle.mp_params.specs.Params.{ParamsValue}
 use Rattle.mp_params.specs.Table.{key_name, keys}
 
 -- the text of a key's value, if it has one
 abbrev pub value_text : ParamsValue → Key → Option (List ℕ)
-value_text p Version = Some (number_text p.version)
-value_text p Image = Some p.image
-value_text p ImageShape = Some (sides_text p.image_shape)
-value_text p ImageColumn = Some (number_text p.image_column)
-value_text p Categories = Some (spaced signed_decimal p.categories)
-value_text p Missing = Some (signed_decimal p.missing)
-value_text p Grid = Some (sides_text p.grid)
-value_text p Origin = Some (spaced micro_text p.origin)
-value_text p Size = Some (spaced micro_text p.size)
-value_text p Points = p.points
-value_text p PointColumns = Some (spaced number_text p.point_columns)
-value_text p Radii = Some (spaced number_text p.radii)
-value_text p Template = Some (number_text p.template)
-value_text p MaxData = Some (number_text p.max_data)
-value_text p MinReplicates = Some (number_text p.min_replicates)
-value_text p Levels = Some (number_text p.levels)
-value_text p Servo = Some (number_text p.servo)
-value_text p Targets = option_map (spaced number_text) p.targets
-value_text p Seed = Some (number_text p.seed)
-value_text p Realisations = Some (number_text p.realisations)
-value_text p Store = Some (store_text p.store)
-value_text p Window = Some (number_text p.window)
-value_text p Output = Some p.output
+value_text p key.Version = Some (number_text p.version)
+value_text p key.Image = Some p.image
+value_text p key.ImageShape = Some (sides_text p.image_shape)
+value_text p key.ImageColumn = Some (number_text p.image_column)
+value_text p key.Categories = Some (spaced signed_decimal p.categories)
+value_text p key.Missing = Some (signed_decimal p.missing)
+value_text p key.Grid = Some (sides_text p.grid)
+value_text p key.Origin = Some (spaced micro_text p.origin)
+value_text p key.Size = Some (spaced micro_text p.size)
+value_text p key.Points = p.points
+value_text p key.PointColumns = Some (spaced number_text p.point_columns)
+value_text p key.Radii = Some (spaced number_text p.radii)
+value_text p key.Template = Some (number_text p.template)
+value_text p key.MaxData = Some (number_text p.max_data)
+value_text p key.MinReplicates = Some (number_text p.min_replicates)
+value_text p key.Levels = Some (number_text p.levels)
+value_text p key.Servo = Some (number_text p.servo)
+value_text p key.Targets = option_map (spaced number_text) p.targets
+value_text p key.Seed = Some (number_text p.seed)
+value_text p key.Realisations = Some (number_text p.realisations)
+value_text p key.Store = Some (store_text p.store)
+value_text p key.Window = Some (number_text p.window)
+value_text p key.Output = Some p.output
 
 -- the entry of a key, if it has a value
 abbrev pub entry_for : ParamsValue → Key → Option Entry

@@ -3,7 +3,7 @@ use Rattle.std.specs.Prelude.{ℕ, Bool, true, false, List, [], ◌∷◌, Optio
 use Rattle.std.specs.List.{filter, find}
 use Rattle.std.specs.Str.{bytes_eq}
 use Rattle.mp_params.specs.declared.table.Key.{Key}
-use Rattle.mp_params.specs.declared.table.Key.TheVariants.{Version, Image, ImageShape, ImageColumn, Categories, Missing, Grid, Origin, Size, Points, PointColumns, Radii, Template, MaxData, MinReplicates, Levels, Servo, Targets, Seed, Realisations, Store, Window, Output}
+use Rattle.mp_params.specs.declared.table.Key.TheVariants as key
 use Rattle.mp_values.specs.declared.form.Form.{Form}
 use Rattle.mp_values.specs.declared.form.Form.TheVariants as form
 use Rattle.mp_values.specs.Values.{is_between, is_name, shape_of, number_in, code_of, codes_of, origin_of, sizes_of, columns_of, radii_of, targets_of, seed_of, store_of, version_of}
@@ -27,33 +27,33 @@ or_else text name form = record { name = name; form = form; is_required = false;
 -- the keys, in the order in which they are printed and looked for
 abbrev pub keys : List Key
 keys =
-    Version ∷ Image ∷ ImageShape ∷ ImageColumn ∷ Categories ∷ Missing ∷ Grid ∷ Origin ∷ Size ∷ Points ∷ PointColumns ∷ Radii ∷ Template ∷ MaxData ∷ MinReplicates ∷ Levels ∷ Servo ∷ Targets ∷ Seed ∷ Realisations ∷ Store ∷ Window ∷ Output ∷ []
+    key.Version ∷ key.Image ∷ key.ImageShape ∷ key.ImageColumn ∷ key.Categories ∷ key.Missing ∷ key.Grid ∷ key.Origin ∷ key.Size ∷ key.Points ∷ key.PointColumns ∷ key.Radii ∷ key.Template ∷ key.MaxData ∷ key.MinReplicates ∷ key.Levels ∷ key.Servo ∷ key.Targets ∷ key.Seed ∷ key.Realisations ∷ key.Store ∷ key.Window ∷ key.Output ∷ []
 
 -- the table
 abbrev pub row_of : Key → Row
-row_of Version = or_else (codes "1") (codes "version") form.Version
-row_of Image = required (codes "image") form.Name
-row_of ImageShape = required (codes "image_shape") form.Shape
-row_of ImageColumn = or_else (codes "1") (codes "image_column") (form.Number 1 64)
-row_of Categories = required (codes "categories") form.Codes
-row_of Missing = or_else (codes "-9966699") (codes "missing") form.Code
-row_of Grid = required (codes "grid") form.Shape
-row_of Origin = or_else (codes "0 0 0") (codes "origin") form.Origin
-row_of Size = or_else (codes "1 1 1") (codes "size") form.Sizes
-row_of Points = optional (codes "points") form.Name
-row_of PointColumns = or_else (codes "1 2 3 4") (codes "point_columns") form.Columns
-row_of Radii = required (codes "radii") form.Radii
-row_of Template = required (codes "template") (form.Number 1 64)
-row_of MaxData = or_else (codes "64") (codes "max_data") (form.Number 1 64)
-row_of MinReplicates = or_else (codes "10") (codes "min_replicates") (form.Number 1 1000000)
-row_of Levels = or_else (codes "1") (codes "levels") (form.Number 1 8)
-row_of Servo = or_else (codes "0") (codes "servo") (form.Number 0 999)
-row_of Targets = optional (codes "targets") form.Targets
-row_of Seed = or_else (codes "0") (codes "seed") form.Seed
-row_of Realisations = or_else (codes "1") (codes "realisations") (form.Number 1 1000)
-row_of Store = or_else (codes "tree") (codes "store") form.Store
-row_of Window = or_else (codes "64") (codes "window") (form.Number 1 256)
-row_of Output = required (codes "output") form.Name
+row_of key.Version = or_else (codes "1") (codes "version") form.Version
+row_of key.Image = required (codes "image") form.Name
+row_of key.ImageShape = required (codes "image_shape") form.Shape
+row_of key.ImageColumn = or_else (codes "1") (codes "image_column") (form.Number 1 64)
+row_of key.Categories = required (codes "categories") form.Codes
+row_of key.Missing = or_else (codes "-9966699") (codes "missing") form.Code
+row_of key.Grid = required (codes "grid") form.Shape
+row_of key.Origin = or_else (codes "0 0 0") (codes "origin") form.Origin
+row_of key.Size = or_else (codes "1 1 1") (codes "size") form.Sizes
+row_of key.Points = optional (codes "points") form.Name
+row_of key.PointColumns = or_else (codes "1 2 3 4") (codes "point_columns") form.Columns
+row_of key.Radii = required (codes "radii") form.Radii
+row_of key.Template = required (codes "template") (form.Number 1 64)
+row_of key.MaxData = or_else (codes "64") (codes "max_data") (form.Number 1 64)
+row_of key.MinReplicates = or_else (codes "10") (codes "min_replicates") (form.Number 1 1000000)
+row_of key.Levels = or_else (codes "1") (codes "levels") (form.Number 1 8)
+row_of key.Servo = or_else (codes "0") (codes "servo") (form.Number 0 999)
+row_of key.Targets = optional (codes "targets") form.Targets
+row_of key.Seed = or_else (codes "0") (codes "seed") form.Seed
+row_of key.Realisations = or_else (codes "1") (codes "realisations") (form.Number 1 1000)
+row_of key.Store = or_else (codes "tree") (codes "store") form.Store
+row_of key.Window = or_else (codes "64") (codes "window") (form.Number 1 256)
+row_of key.Output = required (codes "output") form.Name
 
 abbrev pub key_name : Key → List ℕ
 key_name k = (row_of k).name

@@ -2,8 +2,8 @@
 #![tactic(auto)]
 
 mod fault;
+mod found;
 mod params;
-mod parts;
 mod printing;
 mod reading;
 mod settings;

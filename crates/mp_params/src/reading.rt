@@ -1,17 +1,18 @@
 // Parameters read from a file.
-ghost use Rattle.std.specs.Prelude.{◌≡◌, ◌≤◌, length, option_copied};
+ghost use Rattle.std.specs.Prelude.{◌≡◌, ◌≤◌, IfOk, All, length, false, true};
 ghost use Rattle.std.specs.List.{sum};
 ghost use Rattle.mp_params.specs.Lines.{Gives};
 ghost use Rattle.mp_params.specs.Params.{targets_fit as targets_fit_codes};
-ghost use Rattle.mp_params.specs.Parts.{IsGridPart, IsImagePart, IsRunPart, IsSearchPart, joined as joined_parts};
-ghost use Rattle.mp_params.specs.Reading.{judged, params_of, values_of};
+ghost use Rattle.mp_params.specs.Reading.{judged as judged_values, params_of, values_in, values_of};
+ghost use Rattle.mp_params.specs.Whole.{IsRead, IsWhole};
+ghost use Rattle.mp_values.specs.Values.{is_code};
 
 use crate::fault::{ParamsError, ParamsFault};
+use crate::found;
 use crate::params::Params;
-use crate::parts::{
-    GridPart, ImagePart, RunPart, SearchPart, grid_part, image_part, run_part, search_part,
-};
 use crate::settings::{Setting, settings};
+use crate::table::Key;
+use mp_base::NoMemory;
 use mp_values::Targets;
 use std::alloc::Global;
 
@@ -38,90 +39,78 @@ pub fn read_params(alloc: Global, bytes: &[u8]) -> Result<Params, ParamsError>
 // The parameters that settings give.
 #[tactic(auto, unfolding(crate::specs::Reading::values_of))]
 fn params(alloc: Global, settings: &[Setting<'_>]) -> Result<Params, ParamsError>
+    requires { All IsRead settings.now }
     ensures { Gives (λ p. p) result (values_of settings.now) }
 {
-    let image = image_part(alloc, settings)?;
-    let grid = grid_part(alloc, settings)?;
-    let search = search_part(settings)?;
-    let run = run_part(alloc, settings)?;
-    joined(image, grid, search, run)
+    match found::first_absent(settings) {
+        Some(key) => Err(ParamsError::Fault(ParamsFault::Absent { key })),
+        None => judged(alloc, settings),
+    }
 }
 
-// The parameters of these parts, unless the missing code is a category or targets don't fit.
-fn joined(
-    images: ImagePart,
-    grids: GridPart,
-    search: SearchPart,
-    run: RunPart,
-) -> Result<Params, ParamsError>
-    requires images { IsImagePart images }
-    requires grids { IsGridPart grids }
-    requires search { IsSearchPart search }
-    requires run { IsRunPart run }
-    ensures { Gives (λ p. p) result (judged (joined_parts images grids search run)) }
+// The same where no required key is absent: the missing code may be a category, and targets may not fit.
+fn judged(alloc: Global, settings: &[Setting<'_>]) -> Result<Params, ParamsError>
+    requires { IsWhole settings.now }
+    ensures { Gives (λ p. p) result (judged_values (values_in settings.now)) }
 {
-    if images.categories.as_slice().contains(&images.missing) {
+    let categories = found::categories(settings, Key::Categories);
+    let missing = found::code(settings, Key::Missing);
+    if is_category(missing, categories.as_slice()) {
         return Err(ParamsError::Fault(ParamsFault::BadMissing));
     }
-    if !targets_fit(&search.targets, images.categories.as_slice()) {
+    let targets = found::targets_if_any(settings, Key::Targets);
+    if !targets_fit(&targets, categories.as_slice()) {
         return Err(ParamsError::Fault(ParamsFault::BadTargets));
     }
-    let ImagePart {
-        version,
-        image,
-        image_shape,
-        image_column,
-        categories,
-        missing,
-    } = images;
-    let GridPart {
-        grid,
-        origin,
-        size,
-        points,
-        point_columns,
-    } = grids;
-    let SearchPart {
-        radii,
-        template,
-        max_data,
-        min_replicates,
-        levels,
-        servo,
-        targets,
-    } = search;
-    let RunPart {
-        seed,
-        realisations,
-        store,
-        window,
-        output,
-    } = run;
+    match whole(alloc, settings) {
+        Ok(params) => Ok(params),
+        Err(error) => Err(ParamsError::from(error)),
+    }
+}
+
+// The values of all keys.
+#[tactic(auto, unfolding(crate::specs::Reading::values_in))]
+fn whole(alloc: Global, settings: &[Setting<'_>]) -> Result<Params, NoMemory>
+    requires whole { IsWhole settings.now }
+    requires apart { is_code (values_in settings.now).missing (values_in settings.now).categories ≡ false }
+    requires fit { targets_fit_codes (values_in settings.now).targets (values_in settings.now).categories ≡ true }
+    ensures { IfOk result (λ p. p ≡ values_in settings.now) }
+{
+    let image = found::name(alloc, settings, Key::Image)?;
+    let points = found::name_if_any(alloc, settings, Key::Points)?;
+    let output = found::name(alloc, settings, Key::Output)?;
     Ok(Params {
-        version,
+        version: found::version(settings, Key::Version),
         image,
-        image_shape,
-        image_column,
-        categories,
-        missing,
-        grid,
-        origin,
-        size,
+        image_shape: found::shape(settings, Key::ImageShape),
+        image_column: found::number(settings, Key::ImageColumn) as u16,
+        categories: found::categories(settings, Key::Categories),
+        missing: found::code(settings, Key::Missing),
+        grid: found::shape(settings, Key::Grid),
+        origin: found::origin(settings, Key::Origin),
+        size: found::sizes(settings, Key::Size),
         points,
-        point_columns,
-        radii,
-        template,
-        max_data,
-        min_replicates,
-        levels,
-        servo,
-        targets,
-        seed,
-        realisations,
-        store,
-        window,
+        point_columns: found::columns(settings, Key::PointColumns),
+        radii: found::radii(settings, Key::Radii),
+        template: found::number(settings, Key::Template) as u8,
+        max_data: found::number(settings, Key::MaxData) as u8,
+        min_replicates: found::number(settings, Key::MinReplicates),
+        levels: found::number(settings, Key::Levels) as u8,
+        servo: found::number(settings, Key::Servo) as u16,
+        targets: found::targets_if_any(settings, Key::Targets),
+        seed: found::seed(settings, Key::Seed),
+        realisations: found::number(settings, Key::Realisations),
+        store: found::store(settings, Key::Store),
+        window: found::number(settings, Key::Window) as u16,
         output,
     })
+}
+
+// Whether a code is the code of a category.
+fn is_category(code: i32, categories: &[i32]) -> bool
+    ensures { result ≡ is_code code categories.now }
+{
+    categories.contains(&code)
 }
 
 // Whether targets, if there are any, are as many as the categories and a million in all.

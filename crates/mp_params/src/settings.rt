@@ -1,9 +1,10 @@
 // The settings of a file: its lines, judged one after another.
-ghost use Rattle.std.specs.Prelude.{◌≡◌, ◌++◌, ◌≤◌, OnOk, Some, None, if◌then◌else◌, is_some, option_map, length};
+ghost use Rattle.std.specs.Prelude.{◌≡◌, ◌++◌, ◌≤◌, All, IfOk, IfSome, OnOk, Some, None, if◌then◌else◌, is_some, option_map, length};
 ghost use Rattle.std.specs.List.{list_all};
 ghost use Rattle.std.specs.Option.{option_to_list};
 ghost use Rattle.mp_params.specs.Lines.{Gives, entry_in, entry_of, given, is_key_byte, is_key_text, is_setting, key_fault, line_fault, settings_of, unless};
 ghost use Rattle.mp_params.specs.Table.{key_of as key_named};
+ghost use Rattle.mp_params.specs.Whole.{IsRead};
 ghost use Rattle.mp_text.specs.Lines.{line_texts};
 
 use crate::fault::{ParamsError, ParamsFault};
@@ -32,7 +33,8 @@ impl<'a> Model for Setting<'a> {
 /// The settings of a file, or the fault of its first line that has one.
 pub fn settings(alloc: Global, file: &[u8]) -> Result<Vec<Setting<'_>>, ParamsError>
     requires { length file.now ≤ 65536 }
-    ensures { Gives (λ v. v.items) result (settings_of (line_texts file.now)) }
+    ensures value { Gives (λ v. v.items) result (settings_of (line_texts file.now)) }
+    ensures read { IfOk result (λ v. All IsRead v.items) }
 {
     let mut settings = Vec::new(alloc);
     let mut rest = file;
@@ -77,7 +79,8 @@ fn judged<'a>(
     earlier: &[Setting<'_>],
     line: &'a [u8],
 ) -> Result<Option<Setting<'a>>, ParamsFault>
-    ensures { result ≡ unless (line_fault number earlier.now line.now) (entry_of line.now) }
+    ensures value { result ≡ unless (line_fault number earlier.now line.now) (entry_of line.now) }
+    ensures read { IfOk result (λ setting. IfSome setting IsRead) }
 {
     if is_skipped(line) {
         return Ok(None);

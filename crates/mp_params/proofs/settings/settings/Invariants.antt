@@ -1,4 +1,6 @@
 use Rattle.std.proofs.Common.{◌≡◌, ◌+◌, ◌<◌, ◌≤◌, ℕ, None, length, take, drop}
+use Rattle.std.specs.Prelude.{All}
+use Rattle.mp_params.specs.Whole.{IsRead}
 use Rattle.mp_params.specs.Lines.{entries_of, fault_at}
 use Rattle.mp_text.specs.Lines.{line_texts}
 use Rattle.mp_params.proofs.settings.settings.Given as goal
@@ -8,6 +10,7 @@ invariant-loop-line l = record {
   rest : drop l.number (line_texts l.file) ≡ line_texts l.rest;
   entries : l.settings.items ≡ entries_of (take l.number (line_texts l.file));
   clean : (k : ℕ) → k < l.number → fault_at (line_texts l.file) k ≡ None;
+  read : All IsRead l.settings.items;
   few : l.number + length l.rest ≤ length l.file;
 }
 
