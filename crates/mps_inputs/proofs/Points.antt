@@ -16,7 +16,7 @@ use Rattle.hard_data.specs.Nearest.{first_nearest}
 use Rattle.hard_data.specs.Points.{datum_of_cell, is_for, placed_of, row_of_cell}
 use Rattle.hard_data.specs.declared.points.Placed.{Placed}
 use Rattle.mp_params.specs.Params.{ParamsValue}
-use Rattle.mp_params.specs.Values.{are_sizes, is_size}
+use Rattle.mp_values.specs.Values.{are_sizes, is_size}
 use Rattle.mps_inputs.specs.Inputs.{codes_in, frame_of, wanted_points}
 
 -- Frames and columns.

@@ -8,10 +8,11 @@ use Rattle.std.proofs.lemmas.List.{length-replicate}
 use Rattle.std.proofs.lemmas.List.Sums.{AllPass-from_list_all}
 use Rattle.mp_base.specs.Grid.{Field, IsBelow}
 use Rattle.mp_base.proofs.Tallies.{length-tally}
-use Rattle.mp_params.specs.Params.{AreCategories, AreRadii, IsParams, ParamsValue, targets_fit}
-use Rattle.mp_params.specs.Values.{is_between}
+use Rattle.mp_values.specs.Forms.{AreCategories, AreRadii}
+use Rattle.mp_params.specs.Params.{IsParams, ParamsValue, targets_fit}
+use Rattle.mp_values.specs.Values.{is_between}
 use Rattle.seq_engine.specs.Setup.{IsSetup}
-use Rattle.template_order.specs.Reach.{radii_in}
+use Rattle.template_order.specs.Radii.{radii_in}
 use Rattle.template_order.specs.Template.{IsSmall}
 use Rattle.mp_base.specs.Cells.{category_counts}
 use Rattle.mps_inputs.specs.Setup.{setup_of, shares_of, target_of}

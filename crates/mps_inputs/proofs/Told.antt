@@ -1,6 +1,6 @@
 -- What a command that writes no file answers once its text is written to `out`, or couldn't be.
-use Rattle.std.proofs.Common.{◌≡◌, inl, inr, refl, sym, subst, ℕ, List, None, Result, Ok, Err}
-use Rattle.std.specs.Prelude.{IfErr, IsTrue}
+use Rattle.std.proofs.Common.{inl, inr, refl, sym, subst, ℕ, List, None, Result, Ok, Err}
+use Rattle.std.specs.Prelude.{IfErr}
 use Rattle.mp_outside.specs.Seen.{FilesSeen, SinkSeen}
 use Rattle.mps_inputs.specs.Answers.{Ends, seen}
 use Rattle.mps_inputs.specs.Done.{Done}

@@ -9,8 +9,8 @@ use Rattle.gslib_grid.specs.declared.want.Want.{Want}
 use Rattle.gslib_grid.specs.declared.want.Want.TheVariants as want
 use Rattle.hard_data.specs.Points.{placed_of}
 use Rattle.hard_data.specs.declared.points.Placed.{Placed}
-use Rattle.mp_params.specs.declared.store.StoreChoice.{StoreChoice}
-use Rattle.mp_params.specs.declared.store.StoreChoice.TheVariants.{Tree, List as Listed}
+use Rattle.mp_values.specs.declared.choice.StoreChoice.{StoreChoice}
+use Rattle.mp_values.specs.declared.choice.StoreChoice.TheVariants.{Tree, List as Listed}
 use Rattle.mp_params.specs.Params.{ParamsValue}
 use Rattle.mp_params.specs.declared.fault.ParamsError.{ParamsError}
 use Rattle.mp_params.specs.declared.fault.ParamsError.TheVariants as error

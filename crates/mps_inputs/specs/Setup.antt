@@ -4,7 +4,7 @@ use Rattle.std.specs.Option.{option_map_or}
 use Rattle.mp_base.specs.Cells.{category_counts}
 use Rattle.mp_base.specs.Grid.{Field}
 use Rattle.mp_params.specs.Params.{ParamsValue}
-use Rattle.template_order.specs.Reach.{radii_in}
+use Rattle.template_order.specs.Radii.{radii_in}
 use Rattle.template_order.specs.Template.{template_of}
 use Rattle.seq_engine.specs.Realisation.{positions_by_level, too_few}
 use Rattle.seq_engine.specs.declared.setup.RunError.{RunError}

@@ -6,7 +6,7 @@ use Rattle.std.proofs.lemmas.List.{append_assoc, append-nil, drop_all}
 use Rattle.std.proofs.lemmas.List.Splits.{slice_split_first, slice_split_none}
 use Rattle.std.proofs.lemmas.List.Sums.{fails_before_first}
 use Rattle.mp_base.specs.Number.{short_number}
-use Rattle.mp_params.specs.Values.{all_read, where_so}
+use Rattle.mp_values.specs.Values.{all_read, where_so}
 use Rattle.mps_scan.specs.declared.coded.CodedDatum.{CodedDatum}
 use Rattle.mps_scan.specs.Coded.{coded, positions_rise, next_position}
 use Rattle.mps_scan.specs.Words.{code_of, data_in, datum_of, is_comma, is_equals, position_of, with_datum, with_part}

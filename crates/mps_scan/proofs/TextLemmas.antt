@@ -3,7 +3,7 @@ use Rattle.std.proofs.Common.{◌≡◌, ℕ, ◌+◌, List, [], ◌∷◌, ◌+
 use Rattle.std.specs.List.{flat_map, range_with_len}
 use Rattle.std.proofs.lemmas.List.{length-take}
 use Rattle.mp_base.specs.Grid.{Field}
-use Rattle.mp_params.specs.declared.store.StoreChoice.{StoreChoice}
+use Rattle.mp_values.specs.declared.choice.StoreChoice.{StoreChoice}
 use Rattle.ti_scan.specs.declared.event.Datum.{Datum}
 use Rattle.ti_scan.specs.Event.{IsEvent, Source, StandsFor, counts_of}
 use Rattle.ti_scan.specs.Prefix.{has_enough, longest}

@@ -1,11 +1,11 @@
 -- What `scan` is asked, and what it tells.
 use Rattle.std.specs.Prelude.{◌≡◌, ◌⊎◌, ℕ, List, length, Result, Err, ok_or}
 use Rattle.mp_params.specs.Params.{ParamsValue}
-use Rattle.mp_params.specs.declared.store.StoreChoice.{StoreChoice}
+use Rattle.mp_values.specs.declared.choice.StoreChoice.{StoreChoice}
 use Rattle.search_tree.specs.Prefixes.{all_prefixes}
 use Rattle.seq_engine.specs.Realisation.{source_of}
 use Rattle.seq_engine.specs.declared.setup.Setup.{Setup}
-use Rattle.template_order.specs.Reach.{radii_in}
+use Rattle.template_order.specs.Radii.{radii_in}
 use Rattle.template_order.specs.Template.{template_of}
 use Rattle.ti_scan.specs.declared.event.Datum.{Datum}
 use Rattle.mps_scan.specs.Text.{scan_plan, scan_text}

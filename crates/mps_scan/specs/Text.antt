@@ -4,8 +4,8 @@ use Rattle.std.specs.Fmt.{decimal}
 use Rattle.std.specs.List.{range_with_len}
 use Rattle.mp_base.specs.Grid.{Field, field}
 use Rattle.mp_base.specs.Spaced.{behind_spaces}
-use Rattle.mp_params.specs.declared.store.StoreChoice.{StoreChoice}
-use Rattle.mp_params.specs.Printing.{store_text}
+use Rattle.mp_values.specs.declared.choice.StoreChoice.{StoreChoice}
+use Rattle.mp_values.specs.Texts.{store_text}
 use Rattle.ti_scan.specs.declared.event.Datum.{Datum}
 use Rattle.ti_scan.specs.Event.{counts_of}
 use Rattle.event_retrieve.specs.Plan.{Plan}

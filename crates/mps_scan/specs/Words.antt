@@ -5,7 +5,7 @@ use Rattle.std.specs.Ordering.{int_eq}
 use Rattle.std.specs.Str.{bytes_eq}
 use Rattle.std.specs.Str.Parse.{starts_with_minus}
 use Rattle.mp_base.specs.Number.{short_number, signed}
-use Rattle.mp_params.specs.Values.{all_read, is_between, is_code, where_so}
+use Rattle.mp_values.specs.Values.{all_read, is_between, is_code, where_so}
 use Rattle.ti_scan.specs.declared.event.Datum.{Datum}
 use Rattle.mps_scan.specs.declared.coded.CodedDatum.{CodedDatum}
 use Rattle.mps_scan.specs.declared.words.ScanWords.{ScanWords}

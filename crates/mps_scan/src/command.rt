@@ -1,6 +1,6 @@
 // The command `scan`.
 ghost use Rattle.std.specs.Prelude.{◌≡◌, ◌≤◌, IfErr, IfOk, None, Ok, length, true};
-ghost use Rattle.mp_params.specs.declared.store.StoreChoice.TheVariants as stores;
+ghost use Rattle.mp_values.specs.declared.choice.StoreChoice.TheVariants as stores;
 ghost use Rattle.mp_params.specs.Params.{IsParams};
 ghost use Rattle.mp_outside.specs.Seen.{FilesSeen};
 ghost use Rattle.multigrid.specs.Levels.{IsLevel};

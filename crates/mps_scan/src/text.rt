@@ -1,7 +1,7 @@
 // The text of `scan`.
 ghost use Rattle.std.specs.Prelude.{◌≡◌, ◌++◌, ◌≤◌, OnErr, OnOk, length};
 ghost use Rattle.std.specs.Fmt.{decimal};
-ghost use Rattle.mp_params.specs.declared.store.StoreChoice.TheVariants as stores;
+ghost use Rattle.mp_values.specs.declared.choice.StoreChoice.TheVariants as stores;
 ghost use Rattle.ti_scan.specs.Event.{IsEvent, StandsFor};
 ghost use Rattle.mps_scan.specs.Text.{counts_text, kept_line, prefix_line, prefix_lines, retained_line, scan_text, store_line};
 

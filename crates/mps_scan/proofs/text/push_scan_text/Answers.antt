@@ -1,6 +1,6 @@
 use Rattle.std.proofs.Common.{◌++◌, ℕ, List, ap, ◌∙◌}
 use Rattle.std.proofs.lemmas.List.{append_assoc}
-use Rattle.mp_params.specs.declared.store.StoreChoice.TheVariants.{Tree}
+use Rattle.mp_values.specs.declared.choice.StoreChoice.TheVariants.{Tree}
 use Rattle.ti_scan.specs.Event.{counts_of}
 use Rattle.mps_scan.specs.Text.{prefix_lines, retained_line, scan_text, store_line}
 use Rattle.mps_scan.proofs.TextLemmas.{lines_same}
