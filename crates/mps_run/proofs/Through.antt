@@ -1,5 +1,5 @@
 -- One write after another.
-use Rattle.std.proofs.Common.{◌≡◌, ◌⊎◌, ◌≤◌, inl, inr, ◌∙◌, ℕ, List, arith}
+use Rattle.std.proofs.Common.{◌≤◌, inl, inr, ◌∙◌, ℕ, List, arith}
 use Rattle.mp_outside.specs.Causes.{Rose}
 use Rattle.mp_outside.specs.Seen.{FilesSeen, OnlyWrites}
 use Rattle.mps_inputs.specs.Files.{IsWriteFault}

@@ -1,5 +1,5 @@
 -- What `run` answers once its file and its report are written, or couldn't be.
-use Rattle.std.proofs.Common.{◌≡◌, ◌⊎◌, inl, inr, refl, sym, ◌∙◌, ap, subst, ℕ, List, length, Some, None, Result, Ok, Err}
+use Rattle.std.proofs.Common.{◌≡◌, inl, inr, refl, sym, ◌∙◌, ap, subst, ℕ, List, length, Some, Result, Ok, Err}
 use Rattle.std.specs.Prelude.{IfErr, IsTrue}
 use Rattle.std.proofs.Math.Seq.{take-length}
 use Rattle.mp_outside.specs.Contents.{OnlyHeldAt}
@@ -8,7 +8,6 @@ use Rattle.mps_inputs.specs.Files.{IsReportFault, IsWriteFault, Reported, Writte
 use Rattle.mps_inputs.specs.Done.{Done}
 use Rattle.mp_outside.specs.Seen.{FilesSeen, SinkSeen}
 use Rattle.mps_inputs.specs.declared.fault.Fault.{Fault}
-use Rattle.mps_inputs.specs.declared.fault.Fault.TheVariants.{CannotWrite, OutOfMemory, CannotReport}
 
 -- the output file, and then the report
 module _ (name text report : List ℕ) (before now : FilesSeen) (others : OnlyHeldAt name before.held now.held) where

@@ -1,5 +1,5 @@
 -- From the words to the answer.
-use Rattle.std.proofs.Common.{◌≡◌, ◌⊎◌, inl, inr, refl, sym, ◌∙◌, ap, subst, ℕ, List, ◌++◌, true, Option, Some, None, Result, Ok, Err, arith}
+use Rattle.std.proofs.Common.{◌≡◌, ◌⊎◌, inl, inr, refl, sym, ap, subst, ℕ, List, ◌++◌, true, Option, Some, None, Result, Ok, Err, arith}
 use Rattle.std.specs.Prelude.{IsOk, IsOkAnd, ok_or}
 use Rattle.mp_outside.specs.Causes.{Rose}
 use Rattle.mp_outside.specs.Contents.{Held}
@@ -13,7 +13,6 @@ use Rattle.mps_top.specs.Words.{command_of}
 use Rattle.mps_inputs.specs.declared.fault.Fault.{Fault}
 use Rattle.mps_inputs.specs.declared.fault.Fault.TheVariants.{Usage, CannotRead, CannotWrite, OutOfMemory, CannotReport}
 use Rattle.mps_top.specs.declared.words.Command.{Command}
-use Rattle.mps_top.specs.declared.words.Command.TheVariants.{Run, Check}
 
 -- the outcome of a command, if there is one
 abbrev told_outcome : Option Command → Held → Result Done Fault
