@@ -1,5 +1,5 @@
 -- The text of each default has the form of its key.
-use Rattle.std.proofs.Common.{◌≡◌, ℕ, Bool, true, false, List, Option, Some, None, refl, ap, sym, ◌∙◌}
+use Rattle.std.proofs.Common.{◌≡◌, ℕ, Bool, true, List, Option, Some, None, refl, ap, sym, ◌∙◌}
 use Rattle.std.specs.List.{list_all}
 use Rattle.mp_base.specs.Number.{short_number, spelling_of, whole_of, micro_of}
 use Rattle.mp_text.specs.Fields.{fields_of}

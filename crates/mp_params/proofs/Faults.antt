@@ -6,7 +6,7 @@ use Rattle.std.proofs.lemmas.List.{length-drop, drop_more, take_more}
 use Rattle.mp_params.specs.declared.fault.ParamsFault.{ParamsFault}
 use Rattle.mp_text.specs.Fields.{is_skipped}
 use Rattle.mp_params.specs.declared.fault.ParamsFault.TheVariants.{BadLine}
-use Rattle.mp_params.specs.Lines.{Entry, entries_of, entry_in, entry_of, fault_at, is_setting, key_fault, line_fault, settings_of, unless}
+use Rattle.mp_params.specs.Lines.{SettingValue, settings_in, name_and_text, setting_of, fault_at, is_setting, key_fault, line_fault, settings_of, unless}
 use Rattle.mp_params.specs.Table.{key_of}
 
 -- x is the element of xs behind n others, and ys are those behind it
@@ -54,25 +54,25 @@ filter_map_push h [] x = cons_nothing (h x)
 filter_map_push h (z ∷ xs) x = ap (cons_option (h z)) (filter_map_push h xs x) ∙ cons_behind (h z) (filter_map h xs) (option_to_list (h x))
 
 -- the fault of the next line
-pub fault_next : (lines : List (List ℕ)) (n : ℕ) (line : List ℕ) (ys : List (List ℕ)) (earlier : List Entry) → IsNext lines n line ys [] → earlier ≡ entries_of (take n lines) → fault_at lines n ≡ line_fault (n + 1) earlier line
+pub fault_next : (lines : List (List ℕ)) (n : ℕ) (line : List ℕ) (ys : List (List ℕ)) (earlier : List SettingValue) → IsNext lines n line ys [] → earlier ≡ settings_in (take n lines) → fault_at lines n ≡ line_fault (n + 1) earlier line
 fault_next lines n line ys earlier next is = λ i. line_fault (n + 1) (sym is i) (next.here i)
 
--- the entries up to the next line
-pub entries_next : (lines : List (List ℕ)) (n : ℕ) (line : List ℕ) (ys : List (List ℕ)) (earlier : List Entry) (e : Option Entry) → IsNext lines n line ys [] → earlier ≡ entries_of (take n lines) → entry_of line ≡ e → earlier ++ option_to_list e ≡ entries_of (take (n + 1) lines)
-entries_next lines n line ys earlier e next is here =
-    (λ i. is i ++ option_to_list (sym here i)) ∙ sym (ap entries_of next.more ∙ filter_map_push entry_of (take n lines) line)
+-- the settings up to the next line
+pub settings_next : (lines : List (List ℕ)) (n : ℕ) (line : List ℕ) (ys : List (List ℕ)) (earlier : List SettingValue) (e : Option SettingValue) → IsNext lines n line ys [] → earlier ≡ settings_in (take n lines) → setting_of line ≡ e → earlier ++ option_to_list e ≡ settings_in (take (n + 1) lines)
+settings_next lines n line ys earlier e next is here =
+    (λ i. is i ++ option_to_list (sym here i)) ∙ sym (ap settings_in next.more ∙ filter_map_push setting_of (take n lines) line)
 
 -- the first fault of a line decides
 pub settings_err : (lines : List (List ℕ)) (n : ℕ) (f : ParamsFault) → n < length lines → ((k : ℕ) → k < n → fault_at lines k ≡ None) → fault_at lines n ≡ Some f → settings_of lines ≡ Err f
 unfolding settings_of
 settings_err lines n f within clean is =
-    ap (λ o. unless o (entries_of lines)) (first_found (fault_at lines) 0 (length lines) n f within (λ j below. ap (fault_at lines) (omega arith) ∙ clean j below) (ap (fault_at lines) (omega arith) ∙ is))
+    ap (λ o. unless o (settings_in lines)) (first_found (fault_at lines) 0 (length lines) n f within (λ j below. ap (fault_at lines) (omega arith) ∙ clean j below) (ap (fault_at lines) (omega arith) ∙ is))
 
--- and where no line has one, there are the entries
-pub settings_ok : (lines : List (List ℕ)) → ((k : ℕ) → k < length lines → fault_at lines k ≡ None) → settings_of lines ≡ Ok (entries_of lines)
+-- and where no line has one, there are the settings
+pub settings_ok : (lines : List (List ℕ)) → ((k : ℕ) → k < length lines → fault_at lines k ≡ None) → settings_of lines ≡ Ok (settings_in lines)
 unfolding settings_of
 settings_ok lines clean =
-    ap (λ fs. unless (slice_get fs 0) (entries_of lines)) (none_found (fault_at lines) 0 (length lines) (λ j below. ap (fault_at lines) (omega arith) ∙ clean j below))
+    ap (λ fs. unless (slice_get fs 0) (settings_in lines)) (none_found (fault_at lines) 0 (length lines) (λ j below. ap (fault_at lines) (omega arith) ∙ clean j below))
 
 -- what is read where there is no fault, and where there is one
 pub unless_ok : {X : Type 0} (o : Option ParamsFault) (x y : X) → unless o x ≡ Ok y → (o ≡ None) × (x ≡ y)
@@ -83,19 +83,19 @@ pub unless_err : {X : Type 0} (o : Option ParamsFault) (x : X) (f : ParamsFault)
 unless_err None x f is = cc
 unless_err (Some g) x f is = cc
 
-setting_is : (b : Bool) (e s : Entry) → cond b (Some e) None ≡ Some s → (b ≡ true) × (e ≡ s)
+setting_is : (b : Bool) (e s : SettingValue) → cond b (Some e) None ≡ Some s → (b ≡ true) × (e ≡ s)
 setting_is true e s is = (refl, cc)
 setting_is false e s is = cc
 
 -- a line that isn't skipped and is a setting
-module _ (line : List ℕ) (s : Entry) (seen : is_skipped line ≡ false) (is : cond (is_setting line) (Some (entry_in line)) None ≡ Some s) where
-  pub fault_of_setting : (n : ℕ) (earlier : List Entry) → line_fault n earlier line ≡ key_fault n earlier s (key_of s.name)
+module _ (line : List ℕ) (s : SettingValue) (seen : is_skipped line ≡ false) (is : cond (is_setting line) (Some (name_and_text line)) None ≡ Some s) where
+  pub fault_of_setting : (n : ℕ) (earlier : List SettingValue) → line_fault n earlier line ≡ key_fault n earlier s (key_of s.name)
   unfolding line_fault
   fault_of_setting n earlier =
-      let both = setting_is (is_setting line) (entry_in line) s is in
-      let judge : Entry → Option ParamsFault = λ e. key_fault n earlier e (key_of e.name) in
-      ap (λ b. cond b None (cond (is_setting line) (judge (entry_in line)) (Some (BadLine n)))) seen ∙ ap (λ b. cond b (judge (entry_in line)) (Some (BadLine n))) both.0 ∙ ap judge both.1
+      let both = setting_is (is_setting line) (name_and_text line) s is in
+      let judge : SettingValue → Option ParamsFault = λ e. key_fault n earlier e (key_of e.name) in
+      ap (λ b. cond b None (cond (is_setting line) (judge (name_and_text line)) (Some (BadLine n)))) seen ∙ ap (λ b. cond b (judge (name_and_text line)) (Some (BadLine n))) both.0 ∙ ap judge both.1
 
-  pub entry_of_setting : entry_of line ≡ Some s
-  unfolding entry_of
-  entry_of_setting = ap (λ b. cond b None (Some (entry_in line))) seen ∙ ap Some (setting_is (is_setting line) (entry_in line) s is).1
+  pub setting_kept : setting_of line ≡ Some s
+  unfolding setting_of
+  setting_kept = ap (λ b. cond b None (Some (name_and_text line))) seen ∙ ap Some (setting_is (is_setting line) (name_and_text line) s is).1

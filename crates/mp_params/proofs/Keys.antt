@@ -7,9 +7,9 @@ use Rattle.std.proofs.lemmas.Bool.{and_parts, cases_Bool, not-true}
 use Rattle.std.proofs.lemmas.Slice.Eq.{bytes_eq-Decides}
 use Rattle.mp_params.specs.declared.table.Key.{Key}
 use Rattle.mp_params.specs.declared.table.Key.TheVariants as key
-use Rattle.mp_params.specs.Lines.{Entry, given, is_key_text}
+use Rattle.mp_params.specs.Lines.{SettingValue, given, is_key_text}
 use Rattle.mp_params.specs.Params.{ParamsValue}
-use Rattle.mp_params.specs.Printing.{entries_for, value_text}
+use Rattle.mp_params.specs.Printing.{settings_for, value_text}
 use Rattle.mp_params.specs.Table.{key_name, key_of, keys}
 
 pub key_found : (k : Key) → key_of (key_name k) ≡ Some k
@@ -98,23 +98,23 @@ same_key j k is =
     let both : Some j ≡ Some k = sym (key_found j) ∙ ap key_of names ∙ key_found k in
     cc both
 
--- an entry of another name, and one of this name
-given_skip : (o : Option (List ℕ)) (name wanted : List ℕ) (es : List Entry) → bytes_eq name wanted ≡ false → given (cons_option (option_map (λ t. record { name = name; text = t }) o) es) wanted ≡ given es wanted
+-- a setting of another name, and one of this name
+given_skip : (o : Option (List ℕ)) (name wanted : List ℕ) (es : List SettingValue) → bytes_eq name wanted ≡ false → given (cons_option (option_map (λ t. record { name = name; text = t }) o) es) wanted ≡ given es wanted
 given_skip None name wanted es isnt = refl
 given_skip (Some t) name wanted es isnt = rw isnt refl
 
-given_here : (o : Option (List ℕ)) (name wanted : List ℕ) (es : List Entry) → bytes_eq name wanted ≡ true → given es wanted ≡ None → given (cons_option (option_map (λ t. record { name = name; text = t }) o) es) wanted ≡ o
+given_here : (o : Option (List ℕ)) (name wanted : List ℕ) (es : List SettingValue) → bytes_eq name wanted ≡ true → given es wanted ≡ None → given (cons_option (option_map (λ t. record { name = name; text = t }) o) es) wanted ≡ o
 given_here None name wanted es is none = none
 given_here (Some t) name wanted es is none = rw is refl
 
-pub given_none : (p : ParamsValue) (k : Key) (ks : List Key) → has_no k ks ≡ true → given (entries_for p ks) (key_name k) ≡ None
+pub given_none : (p : ParamsValue) (k : Key) (ks : List Key) → has_no k ks ≡ true → given (settings_for p ks) (key_name k) ≡ None
 given_none p k [] none = refl
 given_none p k (j ∷ js) none =
     let parts = and_parts (not (bytes_eq (key_name j) (key_name k))) (has_no k js) none in
-    given_skip (value_text p j) (key_name j) (key_name k) (entries_for p js) (not-true _ parts.0) ∙ given_none p k js parts.1
+    given_skip (value_text p j) (key_name j) (key_name k) (settings_for p js) (not-true _ parts.0) ∙ given_none p k js parts.1
 
 -- the value of a key among others is given
-given_in : (p : ParamsValue) (k : Key) (ks : List Key) → are_apart ks ≡ true → is_in k ks ≡ true → given (entries_for p ks) (key_name k) ≡ value_text p k
+given_in : (p : ParamsValue) (k : Key) (ks : List Key) → are_apart ks ≡ true → is_in k ks ≡ true → given (settings_for p ks) (key_name k) ≡ value_text p k
 given_in p k [] apart among = cc
 given_in p k (j ∷ js) apart among =
     let parts = and_parts (has_no j js) (are_apart js) apart in
@@ -122,11 +122,11 @@ given_in p k (j ∷ js) apart among =
       | inl is ↦
           let same : j ≡ k = same_key j k is in
           let none : has_no k js ≡ true = subst (λ i. has_no i js ≡ true) same parts.0 in
-          given_here (value_text p j) (key_name j) (key_name k) (entries_for p js) is (given_none p k js none) ∙ ap (value_text p) same
+          given_here (value_text p j) (key_name j) (key_name k) (settings_for p js) is (given_none p k js none) ∙ ap (value_text p) same
       | inr isnt ↦
           let rest : is_in k js ≡ true = sym (ap (λ b. b || is_in k js) isnt) ∙ among in
-          given_skip (value_text p j) (key_name j) (key_name k) (entries_for p js) isnt ∙ given_in p k js parts.1 rest
+          given_skip (value_text p j) (key_name j) (key_name k) (settings_for p js) isnt ∙ given_in p k js parts.1 rest
     ]
 
-pub given_known : (p : ParamsValue) (k : Key) → given (entries_for p keys) (key_name k) ≡ value_text p k
+pub given_known : (p : ParamsValue) (k : Key) → given (settings_for p keys) (key_name k) ≡ value_text p k
 given_known p k = given_in p k keys keys_apart (key_in k)

@@ -10,10 +10,10 @@ use Rattle.mp_params.specs.declared.fault.ParamsFault.TheVariants.{Absent, TooLo
 use Rattle.mp_values.specs.declared.choice.StoreChoice.TheVariants.{Tree}
 use Rattle.mp_params.specs.declared.table.Key.{Key}
 use Rattle.mp_params.specs.declared.table.Key.TheVariants as key
-use Rattle.mp_params.specs.Lines.{Entry, given, settings_of}
+use Rattle.mp_params.specs.Lines.{SettingValue, given, settings_of}
 use Rattle.mp_params.specs.Params.{ParamsValue, IsParams}
 use Rattle.mp_values.specs.Forms.{AreParts}
-use Rattle.mp_params.specs.Printing.{ended_line, entries_for, print_text, value_text}
+use Rattle.mp_params.specs.Printing.{ended_line, settings_for, print_text, value_text}
 use Rattle.mp_values.specs.Texts.{number_text, sides_text, store_text}
 use Rattle.mp_base.specs.Spaced.{spaced}
 use Rattle.mp_params.specs.Reading.{first_absent, judged, no_sides, optional, params_of, text_for, value, values_in, values_of}
@@ -23,11 +23,11 @@ use Rattle.mp_text.specs.Lines.{line_texts}
 use Rattle.mp_text.specs.Chain.{◌>>=◌}
 use Rattle.mp_values.specs.Values.{code_of, codes_of, columns_of, is_between, is_name, name_of, number_in, origin_of, radii_of, seed_of, shape_of, sizes_of, store_of, targets_of, version_of}
 use Rattle.mp_values.proofs.Back.{code_back, code_text_is, codes_back, codes_value, columns_back, columns_value, name_back, name_value, number_back, number_text_is, origin_back, origin_value, radii_back, radii_value, seed_back, seed_value, shape_back, shape_value, sizes_back, sizes_value, store_back, store_value, targets_back, targets_value, version_back}
-use Rattle.mp_params.proofs.Clean.{AllClean, AreGood, IsGood, clean_keys, entries_few, entries_spelled, lines_back, settings_back, text_few}
+use Rattle.mp_params.proofs.Clean.{AllClean, AreGood, IsGood, clean_keys, settings_few, settings_spelled, lines_back, settings_back, text_few}
 use Rattle.mp_params.proofs.Judged.{judged_ok}
 use Rattle.mp_params.proofs.Keys.{given_known, keys_new}
 use Rattle.mp_values.proofs.Spaced.{number_value}
-use Rattle.mp_params.proofs.Written.{IsEntry}
+use Rattle.mp_params.proofs.Written.{IsSettingValue}
 use Rattle.mp_values.proofs.ValueTexts.{IsValueText}
 
 number_good : (low high n : ℕ) → high ≤ 999999999 → is_between low high n ≡ true → IsValueText (number_text n) × (is_some (number_in low high (number_text n)) ≡ true)
@@ -70,8 +70,8 @@ good_of p is key.Store = record { value = store_value p.store; fits = ap is_some
 good_of p is key.Window = let g = number_good 1 256 p.window (omega arith) is.window in record { value = g.0; fits = g.1 }
 good_of p is key.Output = record { value = name_value p.output is.output; fits = is.output }
 
--- each key's value is among the entries
-record AreKnown (p : ParamsValue) (es : List Entry) : Type 0 where
+-- each key's value is among the settings
+record AreKnown (p : ParamsValue) (es : List SettingValue) : Type 0 where
   each : (k : Key) → given es (key_name k) ≡ value_text p k
 
 names_back : (o : Option (List ℕ)) → IfSome o (λ n. is_name n ≡ true) → option_and_then name_of o ≡ o
@@ -82,7 +82,7 @@ parts_back : (o : Option (List ℕ)) → IfSome o AreParts → option_and_then t
 parts_back None is = refl
 parts_back (Some ns) is = targets_back ns is
 
-module _ (p : ParamsValue) (is : IsParams p) (es : List Entry) (known : AreKnown p es) where
+module _ (p : ParamsValue) (is : IsParams p) (es : List SettingValue) (known : AreKnown p es) where
   text_back : (k : Key) (t : List ℕ) → value_text p k ≡ Some t → text_for k es ≡ t
   text_back k t here = ap (λ o. unwrap_or (option_or o (default_of k)) []) (known.each k ∙ here)
 
@@ -132,11 +132,11 @@ module _ (p : ParamsValue) (is : IsParams p) (es : List Entry) (known : AreKnown
 pub reads_back : (p : ParamsValue) → IsParams p → params_of (print_text p) ≡ Ok p
 unfolding params_of print_text
 reads_back p is =
-    let es : List Entry = entries_for p keys in
+    let es : List SettingValue = settings_for p keys in
     let good : AreGood p = record { each = good_of p is } in
-    let spelled : AllByRecursion IsEntry es = entries_spelled p good keys in
+    let spelled : AllByRecursion IsSettingValue es = settings_spelled p good keys in
     let clean : AllClean [] es = clean_keys p good [] keys keys_new in
-    let few : length (flat_map ended_line es) ≤ 65536 = omega (arith, text_few es spelled, entries_few p keys) in
+    let few : length (flat_map ended_line es) ≤ 65536 = omega (arith, text_few es spelled, settings_few p keys) in
     let settings : settings_of (line_texts (flat_map ended_line es)) ≡ Ok es = ap settings_of (lines_back es spelled) ∙ settings_back es spelled clean in
     let known : AreKnown p es = record { each = given_known p } in
     ap (λ b. cond b (Err TooLong) (settings_of (line_texts (flat_map ended_line es)) >>= values_of)) (le-ltb 65536 (length (flat_map ended_line es)) few) ∙ ap (λ r. r >>= values_of) settings ∙ said p is es known

@@ -6,10 +6,10 @@ use Rattle.std.proofs.lemmas.List.Elements.{filter_map-append}
 use Rattle.std.proofs.lemmas.Grind.{flat_map-append}
 use Rattle.mp_params.specs.declared.table.Key.{Key}
 use Rattle.mp_params.specs.Params.{ParamsValue}
-use Rattle.mp_params.specs.Printing.{ended_line, entries_for, entry_for, lines_text}
+use Rattle.mp_params.specs.Printing.{ended_line, settings_for, setting_for, lines_text}
 
 lines_append : (p : ParamsValue) (xs ys : List Key) → lines_text p (xs ++ ys) ≡ lines_text p xs ++ lines_text p ys
-lines_append p xs ys = ap (flat_map ended_line) (filter_map-append (entry_for p) xs ys) ∙ flat_map-append ended_line (entries_for p xs) (entries_for p ys)
+lines_append p xs ys = ap (flat_map ended_line) (filter_map-append (setting_for p) xs ys) ∙ flat_map-append ended_line (settings_for p xs) (settings_for p ys)
 
 -- the line of one more key
 pub lines_more : (p : ParamsValue) (keys : List Key) (i : ℕ) (k : Key) → i < length keys → lines_text p (take i keys) ++ lines_text p (get_or keys i k ∷ []) ≡ lines_text p (take (i + 1) keys)

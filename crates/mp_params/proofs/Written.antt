@@ -1,13 +1,13 @@
 -- A printed line is read back: its line's end, its key and its value are found where they were put.
-use Rattle.std.proofs.Common.{◌≡◌, ℕ, ◌+◌, ◌-◌, ◌<◌, ◌≤◌, Bool, true, false, cond, not, List, [], ◌∷◌, ◌++◌, length, take, drop, map, get_or, Some, None, refl, ap, sym, ◌∙◌, arith, inl, inr}
+use Rattle.std.proofs.Common.{◌≡◌, ℕ, ◌+◌, ◌-◌, ◌<◌, ◌≤◌, Bool, true, false, cond, not, List, [], ◌∷◌, ◌++◌, length, take, drop, get_or, Some, None, refl, ap, sym, ◌∙◌, arith, inl, inr}
 use Rattle.std.specs.Prelude.{◌==◌, nat_le}
-use Rattle.std.specs.List.{after_first, before_first, filter, list_all, list_any, onto_first, position_or_len, suffix_len}
+use Rattle.std.specs.List.{after_first, before_first, list_all, list_any, position_or_len, suffix_len}
 use Rattle.std.proofs.lemmas.Bool.{and_parts, and_from, cases_lt, not-true, or_right}
 use Rattle.std.proofs.lemmas.Bool.Decides.{nat_tests}
 use Rattle.std.proofs.lemmas.List.{append_assoc, drop_at, get_or_append_left, get_or_at, get_or_past, length_push, take_at, take_all}
 use Rattle.std.proofs.lemmas.List.Folds.{list_all-append, list_any-append}
 use Rattle.std.proofs.lemmas.List.Sums.{AllPass-from_list_all, suffix_len_is}
-use Rattle.mp_params.specs.Lines.{Entry, entry_in, entry_of, is_equals, is_key_byte, is_key_text, is_setting}
+use Rattle.mp_params.specs.Lines.{SettingValue, name_and_text, setting_of, is_equals, is_key_byte, is_key_text, is_setting}
 use Rattle.mp_params.specs.Printing.{line_text}
 use Rattle.mp_text.specs.Lines.{line_texts}
 use Rattle.mp_text.specs.Fields.{is_blank, is_remark, is_skipped, to_visible, trimmed}
@@ -48,8 +48,8 @@ at_no_return xs i all = elim (cases_lt i (length xs)) [
 pub line_behind : (xs rest : List ℕ) → list_all is_line_byte xs ≡ true → line_texts (xs ++ 10 ∷ rest) ≡ xs ∷ line_texts rest
 line_behind xs rest all = line_texts_behind xs rest (all_weaker is_line_byte (λ b. not (is_feed b)) line_no_end xs all) (at_no_return xs (length xs - 1) all)
 
--- an entry that a line spells
-pub record IsEntry (e : Entry) : Type 0 where
+-- a setting that a line spells
+pub record IsSettingValue (e : SettingValue) : Type 0 where
   pub key : is_key_text e.name ≡ true
   pub short : length e.name ≤ 14
   pub value : IsValueText e.text
@@ -109,16 +109,16 @@ key_trimmed (x ∷ xs) is =
     ap to_visible (from_seen x (xs ++ 32 ∷ []) (not-true (is_blank x) (key_no_blank x here.0))) ∙ to_blank (x ∷ xs) (omega arith) (key_last (x ∷ xs) (omega arith) parts.1)
 
 -- a line is cut at its first `=`
-line_cut : (e : Entry) → line_text e ≡ (e.name ++ 32 ∷ []) ++ 61 ∷ 32 ∷ e.text
+line_cut : (e : SettingValue) → line_text e ≡ (e.name ++ 32 ∷ []) ++ 61 ∷ 32 ∷ e.text
 line_cut e = sym (append_assoc e.name (32 ∷ []) (61 ∷ 32 ∷ e.text))
 
 name_free : (xs : List ℕ) → list_all is_key_byte xs ≡ true → is_free is_equals (xs ++ 32 ∷ []) ≡ true
 name_free xs all =
     list_all-append (λ b. not (is_equals b)) xs (32 ∷ []) ∙ and_from _ _ (all_weaker is_key_byte (λ b. not (is_equals b)) key_no_equals xs all) refl
 
--- the entry of a line is found where it was put
-pub entry_back : (e : Entry) → IsEntry e → entry_in (line_text e) ≡ e
-entry_back e is =
+-- the setting of a line is found where it was put
+pub setting_back : (e : SettingValue) → IsSettingValue e → name_and_text (line_text e) ≡ e
+setting_back e is =
     let keys = (and_parts (nat_le 1 (length e.name)) (list_all is_key_byte e.name) is.key).1 in
     let free = name_free e.name keys in
     let before : before_first is_equals (line_text e) ≡ e.name ++ 32 ∷ [] = ap (before_first is_equals) (line_cut e) ∙ before_is is_equals 61 (32 ∷ e.text) refl (e.name ++ 32 ∷ []) free in
@@ -134,22 +134,22 @@ not_skipped_from (x ∷ xs) rest is =
     let here = and_parts (is_key_byte x) (list_all is_key_byte xs) parts.1 in
     ap is_remark (from_seen x (xs ++ rest) (not-true (is_blank x) (key_no_blank x here.0))) ∙ key_no_remark x here.0
 
--- a line of an entry isn't skipped
-pub not_skipped : (e : Entry) → IsEntry e → is_skipped (line_text e) ≡ false
+-- a line of a setting isn't skipped
+pub not_skipped : (e : SettingValue) → IsSettingValue e → is_skipped (line_text e) ≡ false
 not_skipped e is = not_skipped_from e.name (32 ∷ 61 ∷ 32 ∷ e.text) is.key
 
-pub line_bytes : (e : Entry) → IsEntry e → list_all is_line_byte (line_text e) ≡ true
+pub line_bytes : (e : SettingValue) → IsSettingValue e → list_all is_line_byte (line_text e) ≡ true
 line_bytes e is =
     let keys = (and_parts (nat_le 1 (length e.name)) (list_all is_key_byte e.name) is.key).1 in
     list_all-append is_line_byte e.name (32 ∷ 61 ∷ 32 ∷ e.text) ∙ and_from _ _ (all_weaker is_key_byte is_line_byte key_line_byte e.name keys) is.value.bytes
 
 -- it is a setting
-pub line_setting : (e : Entry) → IsEntry e → is_setting (line_text e) ≡ true
+pub line_setting : (e : SettingValue) → IsSettingValue e → is_setting (line_text e) ≡ true
 line_setting e is =
     let equals : list_any is_equals (line_text e) ≡ true = list_any-append is_equals e.name (32 ∷ 61 ∷ 32 ∷ e.text) ∙ or_right _ _ refl in
-    and_from _ _ (and_from _ _ (line_bytes e is) equals) (ap (λ (x : Entry). is_key_text x.name) (entry_back e is) ∙ is.key)
+    and_from _ _ (and_from _ _ (line_bytes e is) equals) (ap (λ (x : SettingValue). is_key_text x.name) (setting_back e is) ∙ is.key)
 
--- the entry of a line
-pub entry_of_line : (e : Entry) → IsEntry e → entry_of (line_text e) ≡ Some e
-unfolding entry_of
-entry_of_line e is = ap (λ b. cond b None (Some (entry_in (line_text e)))) (not_skipped e is) ∙ ap Some (entry_back e is)
+-- the setting of a line
+pub setting_of_line : (e : SettingValue) → IsSettingValue e → setting_of (line_text e) ≡ Some e
+unfolding setting_of
+setting_of_line e is = ap (λ b. cond b None (Some (name_and_text (line_text e)))) (not_skipped e is) ∙ ap Some (setting_back e is)

@@ -9,6 +9,6 @@ pub mod Printing
 pub use Rattle.mp_values.specs.Values
 pub use Rattle.mp_values.specs.Forms
 pub use Rattle.mp_values.specs.Texts
--- How the program keeps parameters, and what it knows of entries.
+-- How the program keeps parameters, and what it knows of settings.
 pub mod View
 pub mod Whole

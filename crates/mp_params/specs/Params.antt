@@ -1,5 +1,5 @@
 -- The parameters of a simulation as values, and what holds of them.
-use Rattle.std.specs.Prelude.{◌≡◌, ℕ, ◌^◌, ◌<◌, ◌≤◌, Bool, true, false, ◌&&◌, ◌==◌, List, length, ℤ, Option, Some, None, IfSome, sum}
+use Rattle.std.specs.Prelude.{◌≡◌, ℕ, ◌^◌, ◌<◌, Bool, true, false, ◌&&◌, ◌==◌, List, length, ℤ, Option, Some, None, IfSome, sum}
 use Rattle.mp_base.specs.Grid.{Sides, IsShape}
 use Rattle.mp_values.specs.Forms.{AreCategories, AreColumns, AreParts, AreRadii, IsOrigin}
 use Rattle.mp_values.specs.declared.choice.StoreChoice.{StoreChoice}

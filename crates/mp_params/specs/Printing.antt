@@ -1,5 +1,5 @@
 -- The text of parameters.
-use Rattle.std.specs.Prelude.{ℕ, List, [], ◌∷◌, ◌++◌, pos, Option, Some, option_map, codes}
+use Rattle.std.specs.Prelude.{ℕ, List, [], ◌∷◌, ◌++◌, Option, Some, option_map, codes}
 use Rattle.std.specs.Fmt.{signed_decimal}
 use Rattle.std.specs.List.{filter_map, flat_map}
 use Rattle.mp_base.specs.Number.{micro_text}
@@ -7,7 +7,7 @@ use Rattle.mp_base.specs.Spaced.{spaced}
 use Rattle.mp_values.specs.Texts.{number_text, sides_text, store_text}
 use Rattle.mp_params.specs.declared.table.Key.{Key}
 use Rattle.mp_params.specs.declared.table.Key.TheVariants as key
-use Rattle.mp_params.specs.Lines.{Entry}
+use Rattle.mp_params.specs.Lines.{SettingValue}
 use Rattle.mp_params.specs.Params.{ParamsValue}
 use Rattle.mp_params.specs.Table.{key_name, keys}
 
@@ -37,25 +37,25 @@ value_text p key.Store = Some (store_text p.store)
 value_text p key.Window = Some (number_text p.window)
 value_text p key.Output = Some p.output
 
--- the entry of a key, if it has a value
-abbrev pub entry_for : ParamsValue → Key → Option Entry
-entry_for p k = option_map (λ t. record { name = key_name k; text = t }) (value_text p k)
+-- the setting of a key, if it has a value
+abbrev pub setting_for : ParamsValue → Key → Option SettingValue
+setting_for p k = option_map (λ t. record { name = key_name k; text = t }) (value_text p k)
 
--- the entries that are printed
-abbrev pub entries_for : ParamsValue → List Key → List Entry
-entries_for p keys = filter_map (entry_for p) keys
+-- the settings that are printed
+abbrev pub settings_for : ParamsValue → List Key → List SettingValue
+settings_for p keys = filter_map (setting_for p) keys
 
 -- a key, ` = ` and a value
-abbrev pub line_text : Entry → List ℕ
+abbrev pub line_text : SettingValue → List ℕ
 line_text e = e.name ++ (codes " = " ++ e.text)
 
 -- the same with the line's end
-abbrev pub ended_line : Entry → List ℕ
+abbrev pub ended_line : SettingValue → List ℕ
 ended_line e = line_text e ++ (10 ∷ [])
 
 -- the lines of these keys
 abbrev pub lines_text : ParamsValue → List Key → List ℕ
-lines_text p keys = flat_map ended_line (entries_for p keys)
+lines_text p keys = flat_map ended_line (settings_for p keys)
 
 -- the text of parameters: the lines of all keys, in the order of the table
 unfoldable pub print_text : ParamsValue → List ℕ

@@ -12,68 +12,68 @@ use Rattle.mp_params.specs.declared.fault.ParamsFault.{ParamsFault}
 use Rattle.mp_params.specs.declared.fault.ParamsFault.TheVariants.{TooLong, Absent, BadMissing, BadTargets}
 use Rattle.mp_params.specs.declared.table.Key.{Key}
 use Rattle.mp_params.specs.declared.table.Key.TheVariants as key
-use Rattle.mp_params.specs.Lines.{Entry, given, settings_of}
+use Rattle.mp_params.specs.Lines.{SettingValue, given, settings_of}
 use Rattle.mp_params.specs.Params.{ParamsValue, targets_fit}
 use Rattle.mp_params.specs.Table.{key_name, default_of, form_of, required_keys}
 
 -- the first of the required keys, in their order, that no line has
-abbrev pub first_absent : List Entry → Option Key
-first_absent entries = find (λ k. is_none (given entries (key_name k))) required_keys
+abbrev pub first_absent : List SettingValue → Option Key
+first_absent settings = find (λ k. is_none (given settings (key_name k))) required_keys
 
 -- the text of a key's value: what a line gives, or else the default; no byte where there is neither
-abbrev pub text_for : Key → List Entry → List ℕ
-text_for k entries = unwrap_or (option_or (given entries (key_name k)) (default_of k)) []
+abbrev pub text_for : Key → List SettingValue → List ℕ
+text_for k settings = unwrap_or (option_or (given settings (key_name k)) (default_of k)) []
 
 -- the value of a key, by what is read of its text; `none` would stand where nothing is read, which is never so for a text that has the key's form
-abbrev pub value : {X : Type 0} → X → (List ℕ → Option X) → Key → List Entry → X
-value none read k entries = unwrap_or (read (text_for k entries)) none
+abbrev pub value : {X : Type 0} → X → (List ℕ → Option X) → Key → List SettingValue → X
+value none read k settings = unwrap_or (read (text_for k settings)) none
 
 -- the number of a key, by the form of its value
-abbrev pub number : Key → List Entry → ℕ
-number k entries = value 0 (number_of (form_of k)) k entries
+abbrev pub number : Key → List SettingValue → ℕ
+number k settings = value 0 (number_of (form_of k)) k settings
 
 -- the value of a key that needs none
-abbrev pub optional : {X : Type 0} → (List ℕ → Option X) → Key → List Entry → Option X
-optional read k entries = option_and_then read (given entries (key_name k))
+abbrev pub optional : {X : Type 0} → (List ℕ → Option X) → Key → List SettingValue → Option X
+optional read k settings = option_and_then read (given settings (key_name k))
 
 abbrev pub no_sides : Sides
 no_sides = record { nx = 0; ny = 0; nz = 0 }
 
 -- the values of all keys
-unfoldable pub values_in : List Entry → ParamsValue
-values_in entries = record {
-  version = value 0 version_of key.Version entries;
-  image = text_for key.Image entries;
-  image_shape = value no_sides shape_of key.ImageShape entries;
-  image_column = number key.ImageColumn entries;
-  categories = value [] codes_of key.Categories entries;
-  missing = value (pos 0) code_of key.Missing entries;
-  grid = value no_sides shape_of key.Grid entries;
-  origin = value [] origin_of key.Origin entries;
-  size = value [] sizes_of key.Size entries;
-  points = optional name_of key.Points entries;
-  point_columns = value [] columns_of key.PointColumns entries;
-  radii = value [] radii_of key.Radii entries;
-  template = number key.Template entries;
-  max_data = number key.MaxData entries;
-  min_replicates = number key.MinReplicates entries;
-  levels = number key.Levels entries;
-  servo = number key.Servo entries;
-  targets = optional targets_of key.Targets entries;
-  seed = value 0 seed_of key.Seed entries;
-  realisations = number key.Realisations entries;
-  store = value Tree store_of key.Store entries;
-  window = number key.Window entries;
-  output = text_for key.Output entries;
+unfoldable pub values_in : List SettingValue → ParamsValue
+values_in settings = record {
+  version = value 0 version_of key.Version settings;
+  image = text_for key.Image settings;
+  image_shape = value no_sides shape_of key.ImageShape settings;
+  image_column = number key.ImageColumn settings;
+  categories = value [] codes_of key.Categories settings;
+  missing = value (pos 0) code_of key.Missing settings;
+  grid = value no_sides shape_of key.Grid settings;
+  origin = value [] origin_of key.Origin settings;
+  size = value [] sizes_of key.Size settings;
+  points = optional name_of key.Points settings;
+  point_columns = value [] columns_of key.PointColumns settings;
+  radii = value [] radii_of key.Radii settings;
+  template = number key.Template settings;
+  max_data = number key.MaxData settings;
+  min_replicates = number key.MinReplicates settings;
+  levels = number key.Levels settings;
+  servo = number key.Servo settings;
+  targets = optional targets_of key.Targets settings;
+  seed = value 0 seed_of key.Seed settings;
+  realisations = number key.Realisations settings;
+  store = value Tree store_of key.Store settings;
+  window = number key.Window settings;
+  output = text_for key.Output settings;
 }
 
 -- the missing code is judged before the targets
 abbrev pub judged : ParamsValue → Result ParamsValue ParamsFault
 judged p = if is_code p.missing p.categories then Err BadMissing else if targets_fit p.targets p.categories then Ok p else Err BadTargets
 
--- what the entries of a file say
-unfoldable pub values_of : List Entry → Result ParamsValue ParamsFault
-values_of entries = option_map_or (λ k. Err (Absent k)) (first_absent entries) (judged (values_in entries))
+-- what the settings of a file say
+unfoldable pub values_of : List SettingValue → Result ParamsValue ParamsFault
+values_of settings = option_map_or (λ k. Err (Absent k)) (first_absent settings) (judged (values_in settings))
 
 -- the parameters of a file, or its fault
 unfoldable pub params_of : List ℕ → Result ParamsValue ParamsFault

@@ -1,12 +1,11 @@
 -- The table of keys: their order, the name of each, the form of its value, and what stands where no line has it.
-use Rattle.std.specs.Prelude.{ℕ, Bool, true, false, List, [], ◌∷◌, Option, Some, None, codes, is_some}
+use Rattle.std.specs.Prelude.{ℕ, Bool, true, false, List, [], ◌∷◌, Option, Some, None, codes}
 use Rattle.std.specs.List.{filter, find}
 use Rattle.std.specs.Str.{bytes_eq}
 use Rattle.mp_params.specs.declared.table.Key.{Key}
 use Rattle.mp_params.specs.declared.table.Key.TheVariants as key
 use Rattle.mp_values.specs.declared.form.Form.{Form}
 use Rattle.mp_values.specs.declared.form.Form.TheVariants as form
-use Rattle.mp_values.specs.Values.{is_between, is_name, shape_of, number_in, code_of, codes_of, origin_of, sizes_of, columns_of, radii_of, targets_of, seed_of, store_of, version_of}
 
 -- what is told of a key: its name, the form of its value, whether a line has to have it, and the text that stands where no line has it
 pub record Row : Type 0 where

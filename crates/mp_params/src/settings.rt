@@ -2,7 +2,7 @@
 ghost use Rattle.std.specs.Prelude.{◌≡◌, ◌++◌, ◌≤◌, All, IfOk, IfSome, OnOk, Some, None, if◌then◌else◌, is_some, option_map, length};
 ghost use Rattle.std.specs.List.{list_all};
 ghost use Rattle.std.specs.Option.{option_to_list};
-ghost use Rattle.mp_params.specs.Lines.{Gives, entry_in, entry_of, given, is_key_byte, is_key_text, is_setting, key_fault, line_fault, settings_of, unless};
+ghost use Rattle.mp_params.specs.Lines.{Gives, given, is_key_byte, is_key_text, is_setting, key_fault, line_fault, name_and_text, setting_of, settings_of, unless};
 ghost use Rattle.mp_params.specs.Table.{key_of as key_named};
 ghost use Rattle.mp_params.specs.Whole.{IsRead};
 ghost use Rattle.mp_text.specs.Lines.{line_texts};
@@ -23,9 +23,9 @@ pub struct Setting<'a> {
 }
 
 impl<'a> Model for Setting<'a> {
-    ghost use Rattle.mp_params.specs.Lines.{Entry};
+    ghost use Rattle.mp_params.specs.Lines.{SettingValue};
 
-    ghost Value = { Entry };
+    ghost Value = { SettingValue };
 
     ghost view = { λ s. record { name = s.name.now; text = s.text.now } };
 }
@@ -73,13 +73,13 @@ fn add<'a>(settings: &mut Vec<Setting<'a>>, setting: Option<Setting<'a>>) -> Res
 }
 
 // The setting of a line behind others, if it isn't skipped, or the line's fault.
-#[tactic(auto, unfolding(crate::specs::Lines::line_fault, crate::specs::Lines::entry_of))]
+#[tactic(auto, unfolding(crate::specs::Lines::line_fault, crate::specs::Lines::setting_of))]
 fn judged<'a>(
     number: u32,
     earlier: &[Setting<'_>],
     line: &'a [u8],
 ) -> Result<Option<Setting<'a>>, ParamsFault>
-    ensures value { result ≡ unless (line_fault number earlier.now line.now) (entry_of line.now) }
+    ensures value { result ≡ unless (line_fault number earlier.now line.now) (setting_of line.now) }
     ensures read { IfOk result (λ setting. IfSome setting IsRead) }
 {
     if is_skipped(line) {
@@ -113,7 +113,7 @@ fn key_fault(number: u32, earlier: &[Setting<'_>], setting: &Setting<'_>) -> Opt
 // What stands before the first `=` and after it, where the line has the bytes of a setting and a
 // key's name before the `=`.
 fn setting_in(line: &[u8]) -> Option<Setting<'_>>
-    ensures { result ≡ (if is_setting line.now then Some (entry_in line.now) else None) }
+    ensures { result ≡ (if is_setting line.now then Some (name_and_text line.now) else None) }
 {
     let Some((name, text)) = cut(line, b'=') else {
         return None;

@@ -1,4 +1,4 @@
-use Rattle.std.proofs.Common.{unwrap_or, ap, sym, ◌∙◌, ◌≡◌}
+use Rattle.std.proofs.Common.{unwrap_or, ap, sym, ◌∙◌}
 use Rattle.mp_params.specs.Reading.{text_for}
 use Rattle.mp_params.specs.Table.{form_of}
 use Rattle.mp_values.specs.Forms.{number_of}
