@@ -2,7 +2,7 @@
 ghost use Rattle.std.specs.Prelude.{◌≡◌, OnOk, OnErr, nat_eq};
 ghost use Rattle.std.specs.Map.{lookup};
 
-use mp_base::NoMemory;
+use mp_number::NoMemory;
 use std::alloc::Global;
 use std::marker::Model;
 

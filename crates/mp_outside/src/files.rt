@@ -5,7 +5,7 @@ ghost use Rattle.mp_outside.specs.Contents.{ReadsAt, Creates, Appends};
 ghost use Rattle.mp_outside.specs.Seen.{FilesSeen, OnlyReads, OnlyWrites, ReadFailed, NoReadFailed, WriteFailed, NoWriteFailed};
 ghost use Rattle.mp_outside.specs.declared.files.OutFault.TheVariants.{Failed as FailedFault, NoMemory as WantOfMemory};
 
-use mp_base::NoMemory;
+use mp_number::NoMemory;
 use std::alloc::{AllocError, AllocFailed};
 
 /// A call of the outside failed.

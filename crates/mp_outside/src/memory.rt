@@ -7,7 +7,7 @@ use self::steps::{append_to, create_new};
 use crate::calls::Calls;
 use crate::copy::copy_from;
 use crate::files::{Failed, Files, OutFault};
-use mp_base::NoMemory;
+use mp_number::NoMemory;
 use std::alloc::Global;
 use std::collections::BTreeMap;
 

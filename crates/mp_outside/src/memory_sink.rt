@@ -4,7 +4,7 @@ ghost use Rattle.std.specs.Prelude.{◌≡◌, [], OnOk, OnErr};
 use crate::calls::Calls;
 use crate::files::OutFault;
 use crate::sink::Sink;
-use mp_base::NoMemory;
+use mp_number::NoMemory;
 use std::alloc::Global;
 
 /// A sink in memory, whose writes fail where that was planned.

@@ -4,7 +4,7 @@ ghost use Rattle.std.specs.Prelude.{◌≡◌, [], Some, OnOk, OnErr, option_map
 use crate::copy::copy_from;
 use crate::files::{Failed, Files, OutFault};
 use crate::sink::Sink;
-use mp_base::NoMemory;
+use mp_number::NoMemory;
 use std::alloc::Global;
 use std::collections::BTreeMap;
 
