@@ -114,11 +114,13 @@ pub record Serves (outcome : Held → Result Done Fault) (before now : Seen) (an
   pub files : IsTrue before.files.tells → LeavesFiles (outcome before.files.held) before.files.held now.files.held answer
   pub out : IsTrue before.out.tells → LeavesOut (IsTrue before.files.tells) (outcome before.files.held) before.out.written now.out.written answer
 
--- There is an answer whose status is the number, which comes as it should, and whose line was told.
-pub record IsAnswer (outcome : Held → Result Done Fault) (before now : Seen) (err_before err_now : SinkSeen) (status : ℕ) : Type 0 where
+-- There is an answer whose status is the number, which comes as it should, and whose line was told: over what was seen of
+-- files, `out` and `err` before and afterwards.
+pub record IsAnswer (outcome : Held → Result Done Fault)
+    (files_before : FilesSeen) (out_before err_before : SinkSeen) (files_now : FilesSeen) (out_now err_now : SinkSeen) (status : ℕ) : Type 0 where
   pub answer : Result (Unit {0}) Fault
   pub number : status ≡ status_of answer
-  pub serves : Serves outcome before now answer
+  pub serves : Serves outcome (seen files_before out_before) (seen files_now out_now) answer
   pub line : IsTold err_before err_now answer
 
 -- What is known on the way.

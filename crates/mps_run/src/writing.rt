@@ -2,12 +2,10 @@
 ghost use Rattle.std.specs.Prelude.{◌≡◌, IfErr, length};
 ghost use Rattle.realisation_out.specs.Report.{report_text as report_text_of};
 ghost use Rattle.seq_engine.specs.Setup.{IsSetup};
-ghost use Rattle.mps_inputs.specs.Answers.{Ends, seen};
+ghost use Rattle.mps_inputs.specs.Answers.{seen};
 ghost use Rattle.mps_inputs.specs.Files.{IsReportFault, Reported};
 ghost use Rattle.mps_inputs.specs.Inputs.{codes_in};
-ghost use Rattle.mps_inputs.specs.Judged.{IsJudged};
-ghost use Rattle.mps_inputs.specs.declared.inputs.Inputs.{Inputs};
-ghost use Rattle.mps_run.specs.Outcome.{run_of};
+ghost use Rattle.mps_run.specs.Outcome.{EndsRun};
 ghost use Rattle.mps_run.specs.Texts.{IsReport};
 
 use crate::realisations::write_realisations;
@@ -30,7 +28,7 @@ pub fn write_run<R: LevelRunner, F: Files, O: Sink>(
     requires cats { judged.setup.cats ≡ length judged.parameters.categories }
     requires codes { judged.codes ≡ codes_in judged.parameters }
     requires ready { R.ready runner.old }
-    ensures { (inputs : Inputs) → IsJudged inputs judged → Ends (run_of inputs) (seen (F.seen files.old) (O.seen out.old)) (seen (F.seen files.new) (O.seen out.new)) result }
+    ensures { EndsRun judged (seen (F.seen files.old) (O.seen out.old)) (seen (F.seen files.new) (O.seen out.new)) result }
 {
     let counts = write_realisations(
         alloc,

@@ -33,7 +33,7 @@ pub fn answer_alone<R: Threads, F: Files, O: Sink, E: Sink>(
     out: &mut O,
     err: &mut E,
 ) -> u8
-    ensures answer { IsAnswer (outcome_of (texts words.now)) (seen (F.seen files.old) (O.seen out.old)) (seen (F.seen files.new) (O.seen out.new)) (E.seen err.old) (E.seen err.new) result }
+    ensures answer { IsAnswer (outcome_of (texts words.now)) (F.seen files.old) (O.seen out.old) (E.seen err.old) (F.seen files.new) (O.seen out.new) (E.seen err.new) result }
     ensures usage { result ≡ 1 → IsUsage (outcome_of (texts words.now)) (F.seen files.old) }
     ensures no_command { command_of_words (texts words.now) ≡ None → result ≡ 1 }
     ensures read_cause { result ≡ 3 → (name : List ℕ) × ReadFailed name (F.seen files.old) (F.seen files.new) }

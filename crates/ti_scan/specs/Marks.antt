@@ -1,5 +1,5 @@
 -- Marks of cells one after another, and the bytes of these cells.
-use Rattle.std.specs.Prelude.{◌≡◌, ℕ, ◌-◌, ◌<◌, Bool, false, if◌then◌else◌, Option, None, filter, ◌&&◌, ◌==◌, nat_lt, List, length, slice_index, slice_index_or, count_by}
+use Rattle.std.specs.Prelude.{◌≡◌, ℕ, ◌-◌, ◌<◌, Bool, false, if◌then◌else◌, Option, None, filter, ◌&&◌, ◌==◌, nat_lt, List, length, map, slice_index, slice_index_or, count_by}
 use Rattle.std.specs.List.{range_with_len}
 use Rattle.mp_base.specs.Grid.{category_of}
 
@@ -39,3 +39,7 @@ cells_marked marks from n = filter (λ c. mark marks (c - from)) (range_with_len
 -- the category of item i, where it's marked
 abbrev pub category_marked : List Bool → List ℕ → ℕ → Option ℕ
 category_marked marks bytes i = if mark marks i then category_of (slice_index bytes i) else None
+
+-- the same of all items
+abbrev pub categories_marked : List Bool → List ℕ → List (Option ℕ)
+categories_marked marks bytes = map (category_marked marks bytes) (range_with_len 0 (length marks))

@@ -1,5 +1,5 @@
 -- The part of an image around whose cells a template is inside.
-use Rattle.std.specs.Prelude.{◌≡◌, ℕ, ◌+◌, ◌<◌, ◌≤◌, ℤ, Bool, true, ◌&&◌, nat_le, nat_lt, is_some, List, length, map, filter, slice_index, Option, None, if◌then◌else◌}
+use Rattle.std.specs.Prelude.{◌≡◌, ℕ, ◌+◌, ◌++◌, ◌<◌, ◌≤◌, ℤ, Bool, true, ◌&&◌, nat_le, nat_lt, is_some, List, length, map, filter, slice_index, Option, None, if◌then◌else◌}
 use Rattle.std.specs.List.{list_all, range_with_len, count_by}
 use Rattle.mp_base.specs.declared.cell.Vector.{Vector}
 use Rattle.mp_base.specs.Grid.{Field, Sides, cells_of, cat_of, cell_at, category_of, cat_at, moved, x_of, y_of, z_of}
@@ -53,6 +53,14 @@ eroded_among image template from n = filter (is_eroded image template) (range_wi
 
 abbrev pub centres_among : Field → List Vector → ℕ → ℕ → List (Option ℕ)
 centres_among image template from n = map (centre_in image template) (range_with_len from n)
+
+-- to a list were added the eroded positions among the n cells from here on
+abbrev pub AddsEroded : Field → List Vector → ℕ → ℕ → List ℕ → List ℕ → Type 0
+AddsEroded image template from n before after = after ≡ before ++ eroded_among image template from n
+
+-- to a list of bytes were added those of the categories at their centres
+abbrev pub AddsCentres : Field → List Vector → ℕ → ℕ → List ℕ → List ℕ → Type 0
+AddsCentres image template from n before after = map category_of after ≡ map category_of before ++ centres_among image template from n
 
 -- the bytes of a span of cells: an eroded position has its category, and no other cell has one
 pub record AreCentres (s : Source) (first : ℕ) (bytes : List ℕ) : Type 0 where

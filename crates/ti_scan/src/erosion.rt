@@ -4,7 +4,7 @@ ghost use Rattle.std.specs.List.{range_with_len};
 ghost use Rattle.mp_base.specs.Grid.{IsShape, category_of, cells_of};
 ghost use Rattle.ti_scan.specs.Eroded.{is_eroded};
 ghost use Rattle.ti_scan.specs.Marks.{Keeps};
-ghost use Rattle.ti_scan.specs.Window.{KeepsEroded, centres_among, eroded_among, eroded_from, inside_from, is_inside};
+ghost use Rattle.ti_scan.specs.Window.{AddsCentres, AddsEroded, KeepsEroded, eroded_from, inside_from, is_inside};
 
 use crate::ground::{Ground, bytes_at, own_bytes};
 use crate::margins::is_within;
@@ -84,10 +84,8 @@ pub fn push_block(
     requires some { 1 ≤ len }
     requires few { len ≤ 4096 }
     requires fits { start + len ≤ ground.now.span.cells }
-    ensures positions { let found = eroded_among ground.now.image.now ground.now.vectors.now (ground.now.span.first + start) len in
-        OnOk result (positions.new.items ≡ positions.old.items ++ found) }
-    ensures centres { let found = centres_among ground.now.image.now ground.now.vectors.now (ground.now.span.first + start) len in
-        OnOk result (map category_of centres.new.items ≡ map category_of centres.old.items ++ found) }
+    ensures positions { OnOk result (AddsEroded ground.now.image.now ground.now.vectors.now (ground.now.span.first + start) len positions.old.items positions.new.items) }
+    ensures centres { OnOk result (AddsCentres ground.now.image.now ground.now.vectors.now (ground.now.span.first + start) len centres.old.items centres.new.items) }
 {
     let _ = ground.image.shape();
     let mut block = [true; BLOCK as usize];

@@ -1,7 +1,7 @@
 // Marks of cells one after another. Each loop goes over slices of bytes, so that the compiler
 // looks at many cells at a time.
 ghost use Rattle.std.specs.Prelude.{◌≡◌, ◌≤◌, ◌<◌, ◌^◌, ◌+◌, ◌++◌, None, OnOk, cond, if◌then◌else◌, length, map, ℕ, slice_index};
-ghost use Rattle.ti_scan.specs.Marks.{Keeps, has_byte, has_category, cells_marked, category_marked, marked, marks_in};
+ghost use Rattle.ti_scan.specs.Marks.{Keeps, has_byte, has_category, categories_marked, cells_marked, marked, marks_in};
 ghost use Rattle.ti_scan.specs.Window.{AddsMarked};
 ghost use Rattle.std.specs.List.{range_with_len};
 ghost use Rattle.mp_base.specs.Grid.{category_of};
@@ -101,7 +101,7 @@ fn if_marked(mark: bool, byte: u8) -> u8
 /// Adds the categories of the marked cells, and nothing for the others.
 pub fn push_categories(marks: &[bool], bytes: &[u8], to: &mut Vec<u8>) -> Result<(), NoMemory>
     requires { length bytes.now ≡ length marks.now }
-    ensures { OnOk result (map category_of to.new.items ≡ map category_of to.old.items ++ map (category_marked marks.now bytes.now) (range_with_len 0 (length marks.now))) }
+    ensures { OnOk result (map category_of to.new.items ≡ map category_of to.old.items ++ categories_marked marks.now bytes.now) }
 {
     for i in 0..marks.len() {
         to.push(if_marked(marks[i], bytes[i]))?;
