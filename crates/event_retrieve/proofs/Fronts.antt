@@ -1,5 +1,5 @@
 -- Cells after the entries of the path's first nodes, one entry after another.
-use Rattle.std.proofs.Common.{◌≡◌, ℕ, zero, suc, ◌+◌, ◌<◌, ◌≤◌, true, false, is_some, List, length, get_or, set, take, Option, Some, None, inl, inr, refl, ap, sym, ◌∙◌, arith, subst}
+use Rattle.std.proofs.Common.{◌≡◌, ◌⊎◌, ℕ, zero, suc, ◌+◌, ◌-◌, ◌<◌, ◌≤◌, true, false, is_some, List, length, get_or, set, take, Option, Some, None, inl, inr, refl, ap, sym, ◌∙◌, arith, subst, add-zero}
 use Rattle.std.proofs.lemmas.Bool.{cases_eq, false≢true}
 use Rattle.std.proofs.lemmas.List.Sums.{fold_more}
 use Rattle.std.proofs.Math.Numerals.{add-one}
@@ -73,7 +73,7 @@ module _ (p : Plan) (log : List Entry) (path : IsPath p) (front : IsFront p log)
       apart j below e = let eq : i ≡ j = nodes_apart p path i j within (on_path j (omega arith)) e in omega arith
 
   -- a node of a rank below m has its entry's category after m entries
-  written : (m r : ℕ) → r < m → m ≤ length log → cat_of (cells_at m) (cell_of p r) ≡ Some (get_or log r e0).cat
+  pub written : (m r : ℕ) → r < m → m ≤ length log → cat_of (cells_at m) (cell_of p r) ≡ Some (get_or log r e0).cat
   written zero r below enough = absurd (omega arith)
   written (suc m) r below enough =
       ap (λ n. cat_of (cells_at n) (cell_of p r)) (sym (add-one m)) ∙ elim (cases_eq r m) [
@@ -102,3 +102,32 @@ module _ (p : Plan) (log : List Entry) (path : IsPath p) (front : IsFront p log)
     where
       apart : (j : ℕ) → j < length log → c ≡ cell_of p j → ⊥
       apart j below e = let le : length log ≤ j = later j (ap (rank_in p.path) e ∙ rank_in-at p.path j (on_path j below) path.distinct) in omega arith
+
+  -- what is known stays
+  stays : (m c k : ℕ) → m < length log → cat_of (cells_at m) c ≡ Some k → cat_of (cells_at (m + 1)) c ≡ Some k
+  stays m c k within is = elim (cases_eq c (cell_of p m)) [
+    | inl node ↦ absurd (none_some k (sym (unknown_yet m m (omega arith) (omega arith) (on_path m within)) ∙ ap (cat_of (cells_at m)) (sym node) ∙ is))
+    | inr other ↦ same_at m c within other ∙ is
+  ]
+
+  stays_by : (d m c k : ℕ) → m + d ≤ length log → cat_of (cells_at m) c ≡ Some k → cat_of (cells_at (m + d)) c ≡ Some k
+  stays_by zero m c k within is = ap (λ n. cat_of (cells_at n) c) (add-zero m) ∙ is
+  stays_by (suc d) m c k within is =
+      let one_more : m + suc d ≡ m + d + 1 = omega arith in
+      ap (λ n. cat_of (cells_at n) c) one_more ∙ stays (m + d) c k (omega arith) (stays_by d m c k (omega arith) is)
+
+  pub stays_until : (m later c k : ℕ) → m ≤ later → later ≤ length log → cat_of (cells_at m) c ≡ Some k → cat_of (cells_at later) c ≡ Some k
+  stays_until m later c k le within is =
+      let sum : m + (later - m) ≡ later = omega arith in
+      ap (λ n. cat_of (cells_at n) c) (sym sum) ∙ stays_by (later - m) m c k (omega arith) is
+
+  -- what is known after m entries was known at the start, or is a node of a rank below m
+  pub known_cases : (m c k : ℕ) → m ≤ length log → cat_of (cells_at m) c ≡ Some k → (cat_of p.start.cells c ≡ Some k) ⊎ ((r : ℕ) × (r < m) × (cell_of p r ≡ c))
+  known_cases zero c k within is = inl is
+  known_cases (suc m) c k within is = elim (cases_eq c (cell_of p m)) [
+    | inl node ↦ inr (m, omega arith, sym node)
+    | inr other ↦ elim (known_cases m c k (omega arith) (sym (ap (λ n. cat_of (cells_at n) c) (sym (add-one m)) ∙ same_at m c (omega arith) other) ∙ is)) [
+      | inl at_start ↦ inl at_start
+      | inr node ↦ inr (node.0, omega (arith, node.1), node.2)
+    ]
+  ]

@@ -3,3 +3,12 @@ pub mod Logs
 pub mod Unknown
 pub mod Fronts
 pub mod AroundLemmas
+pub mod LogLemmas
+pub mod Agreeing
+pub mod Members
+pub mod First
+pub mod Vectors
+pub mod Stale
+pub mod Fresh
+pub mod Between
+pub mod Gathered

@@ -1,7 +1,7 @@
 -- The cells around the nodes of a grid.
-use Rattle.std.specs.Prelude.{◌≡◌, ℕ, ◌<◌, List, length, slice_index, slice_index_or, Some}
+use Rattle.std.specs.Prelude.{◌≡◌, ℕ, ◌<◌, pos, ◌-ℤ◌, List, length, slice_index, slice_index_or, Some}
 use Rattle.mp_base.specs.declared.cell.Vector.{Vector}
-use Rattle.mp_base.specs.Grid.{Sides, cell_at}
+use Rattle.mp_base.specs.Grid.{Sides, cell_at, x_of, y_of, z_of}
 
 -- the sides of a grid, and the vectors to the cells that are looked at
 pub record Around : Type 0 where
@@ -12,3 +12,11 @@ pub record Around : Type 0 where
 pub record AreFrom (s : Sides) (template : List Vector) (c : ℕ) (cells : List ℕ) : Type 0 where
   pub count : length cells ≡ length template
   pub each : (i : ℕ) (v : Vector) → i < length template → cell_at s c (slice_index_or template i v) ≡ Some (slice_index cells i)
+
+-- the vector from one cell to another
+abbrev pub vector_between : Sides → ℕ → ℕ → Vector
+vector_between s a b = record {
+  dx = pos (x_of s b) -ℤ pos (x_of s a);
+  dy = pos (y_of s b) -ℤ pos (y_of s a);
+  dz = pos (z_of s b) -ℤ pos (z_of s a);
+}

@@ -1,5 +1,5 @@
 -- The retained part of an event, and how far it reaches.
-use Rattle.std.specs.Prelude.{ℕ, ◌-◌, nat_lt, ◌==◌, if◌then◌else◌, List, length, take, map, slice_index}
+use Rattle.std.specs.Prelude.{ℕ, ◌-◌, nat_le, nat_lt, ◌==◌, if◌then◌else◌, List, length, take, map, filter, slice_index}
 use Rattle.ti_scan.specs.declared.event.Datum.{Datum}
 use Rattle.ti_scan.specs.Event.{counts_of}
 use Rattle.ti_scan.specs.Prefix.{longest}
@@ -30,3 +30,7 @@ reach_by first kept most last =
 
 unfoldable pub reach : Plan → List Datum → ℕ
 reach p event = reach_by (cut p event) (kept_len p (cut p event)) p.max_data (length p.source.template)
+
+-- the data at positions up to r
+abbrev pub up_to : ℕ → List Datum → List Datum
+up_to r event = filter (λ d. nat_le d.position r) event

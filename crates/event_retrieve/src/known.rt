@@ -1,12 +1,13 @@
 // The known template cells around a node.
-ghost use Rattle.std.specs.Prelude.{◌≡◌, ◌+◌, ◌<◌, ◌≤◌, ◌++◌, length, option_to_list};
+ghost use Rattle.std.specs.Prelude.{◌≡◌, ◌↔◌, ℕ, ◌+◌, ◌<◌, ◌≤◌, ◌++◌, IfSome, Some, length, option_to_list};
 ghost use Rattle.mp_base.specs.Grid.{cells_of, cat_at, cat_of};
 ghost use Rattle.ti_scan.specs.Event.{IsEvent};
 ghost use Rattle.ti_scan.specs.Rising.{next_position};
-ghost use Rattle.event_retrieve.specs.Plan.{IsFront, data_by, datum_at, grid_at, known};
+ghost use Rattle.event_retrieve.specs.Around.{vector_between as vector_there};
+ghost use Rattle.event_retrieve.specs.Plan.{IsFront, cell_at_position as cell_there, data_by, datum_at, grid_at, known};
 
 use crate::plan::LevelPlan;
-use mp_base::{Cat, CellId, Entry, Grid, Vector};
+use mp_base::{Cat, CellId, Entry, Grid, Shape, Vector};
 use ti_scan::{Datum, Event, cat_from};
 
 /// The known template cells around a cell of a grid, in template order.
@@ -66,8 +67,9 @@ fn cat_near(plan: &LevelPlan<'_>, log: &[Entry], cell: CellId, v: Vector) -> Opt
     cat_after(plan, log, other)
 }
 
-// The category of a cell once the log's entries are set.
-fn cat_after(plan: &LevelPlan<'_>, log: &[Entry], cell: CellId) -> Option<Cat>
+/// The category of a cell once the log's entries are set: its category at the start, or else that
+/// of its entry. The log has the first nodes of the path.
+pub fn cat_after(plan: &LevelPlan<'_>, log: &[Entry], cell: CellId) -> Option<Cat>
     requires cell { cell < cells_of plan.now.start.sides }
     requires front { IsFront plan.now log.now }
     ensures { result ≡ cat_of (grid_at plan.now log.now (length log.now)).cells cell }
@@ -81,5 +83,44 @@ fn cat_after(plan: &LevelPlan<'_>, log: &[Entry], cell: CellId) -> Option<Cat>
         Some(log[rank].cat)
     } else {
         None
+    }
+}
+
+/// The cell at a template position of a path node, or nothing exactly where that is outside.
+pub fn cell_at_position(plan: &LevelPlan<'_>, index: u32, position: u8) -> Option<CellId>
+    requires index { index < length plan.now.path }
+    requires position { (1 ≤ position) × (position ≤ length plan.now.source.template) }
+    ensures cell { result ≡ cell_there plan.now index position }
+    ensures inside { IfSome result (λ c. c < cells_of plan.now.start.sides) }
+{
+    let vector = plan.eroded().template().vectors()[position as usize - 1];
+    plan.start().shape().step(plan.cell_of(index), vector)
+}
+
+/// The template position of a path node at which a cell lies, or nothing exactly where it lies at
+/// none: the inverse of `cell_at_position`.
+pub fn position_of_cell(plan: &LevelPlan<'_>, index: u32, cell: CellId) -> Option<u8>
+    requires index { index < length plan.now.path }
+    requires cell { cell < cells_of plan.now.start.sides }
+    ensures { (q : ℕ) → (result ≡ Some q) ↔ ((1 ≤ q) × (cell_there plan.now index q ≡ Some cell)) }
+{
+    let _ = plan.length();
+    let vector = vector_between(plan.start().shape(), plan.cell_of(index), cell);
+    plan.eroded().template().position_of(vector)
+}
+
+// The vector from one cell to another.
+fn vector_between(shape: Shape, from: CellId, to: CellId) -> Vector
+    requires from { from < cells_of shape }
+    requires to { to < cells_of shape }
+    ensures { result ≡ vector_there shape from to }
+{
+    let (x, y, z) = shape.place(from);
+    let (to_x, to_y, to_z) = shape.place(to);
+    let _ = shape.cells();
+    Vector {
+        dx: to_x as i32 - x as i32,
+        dy: to_y as i32 - y as i32,
+        dz: to_z as i32 - z as i32,
     }
 }
