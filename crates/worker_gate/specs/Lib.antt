@@ -1,0 +1,2 @@
+-- What its proofs need.
+pub mod Parts
