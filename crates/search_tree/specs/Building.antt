@@ -6,13 +6,17 @@ use Rattle.pattern_blocks.specs.Drawn.{IsAmong, bit_of}
 use Rattle.pattern_blocks.specs.Planes.{PlaneRows}
 use Rattle.pattern_blocks.specs.Rows.{BitRows}
 use Rattle.pattern_blocks.specs.Tally.{number_of}
-use Rattle.search_tree.specs.Levels.{Table, centre, many, table}
+use Rattle.search_tree.specs.Levels.{Table, around, centre, many, table}
 use Rattle.search_tree.specs.Ranks.{place_slot}
 
 -- each of n patterns is marked at its place with what it shows at the first template positions, and nothing else is
 pub record AreDrawn (pattern : Table) (place : ℕ → ℕ) (n reach cats depth : ℕ) (words : List ℕ) : Type 0 where
   pub marked : (i q : ℕ) → i < n → q < depth → bit_of words reach cats (place i) q (pattern i q) ≡ 1
   pub only : (r q k : ℕ) → q < reach → k < cats → bit_of words reach cats r q k ≡ 1 → IsAmong place (λ i. pattern i q) n r k
+
+-- the same of the patterns around these cells
+abbrev pub AreDrawnAround : Source → List ℕ → List ℕ → ℕ → List ℕ → Type 0
+AreDrawnAround s cells places depth words = AreDrawn (around s cells) (slice_index places) (length places) (length s.template) s.cats depth words
 
 -- the same of the patterns of all positions
 abbrev pub IsDrawn : Source → (ℕ → ℕ) → ℕ → List ℕ → Type 0

@@ -1,8 +1,8 @@
 // The bits of all patterns.
 ghost use Rattle.std.specs.Prelude.{◌≡◌, ℕ, ◌*◌, ◌<◌, ◌≤◌, ◌^◌, IfOk, length, slice_index};
 ghost use Rattle.ti_scan.specs.Eroded.{positions_of};
-ghost use Rattle.search_tree.specs.Building.{AreDrawn, HasBlock, IsDrawn};
-ghost use Rattle.search_tree.specs.Levels.{AreAlike, AreEroded, around};
+ghost use Rattle.search_tree.specs.Building.{AreDrawnAround, HasBlock, IsDrawn};
+ghost use Rattle.search_tree.specs.Levels.{AreAlike, AreEroded};
 
 use crate::filling::read_around;
 use crate::picking::{picked_cells, picked_places, picks_of};
@@ -19,7 +19,7 @@ fn draw(eroded: &Eroded<'_>, cells: &[CellId], places: &[u32], shown: &mut [u8],
     requires room { (i : ℕ) → i < length places.now → HasBlock (length eroded.now.template * eroded.now.cats) (slice_index places.now i) words.old }
     requires clear { (j : ℕ) → slice_index words.old j ≡ 0 }
     ensures count { length words.new ≡ length words.old }
-    ensures drawn { AreDrawn (around eroded.now cells.now) (slice_index places.now) (length places.now) (length eroded.now.template) eroded.now.cats (length eroded.now.template) words.new }
+    ensures drawn { AreDrawnAround eroded.now cells.now places.now (length eroded.now.template) words.new }
 {
     let _ = eroded.positions();
     let cats = eroded.cats();
