@@ -4,6 +4,24 @@ use Rattle.search_tree.proofs.Bitwise.{adds_as, drawn_more, nothing_drawn, shown
 use Rattle.search_tree.proofs.Source.{around-small}
 use Rattle.search_tree.proofs.drawing.draw.Goals as goal
 
+pub loop-position-preserved : goal.loop-position-preserved
+loop-position-preserved c =
+    let s = c.args.eroded.now in
+    let reach : c.len-reach.result ≡ length s.template = c.len-reach.ensures.len ∙ ap length c.template.ensures in
+    let short : c.loop-position.position < length s.template = omega (arith, reach, c.loop-position-test.true) in
+    let cells = c.args.cells.now in
+    let places = c.args.places.now in
+    let shown = c.read_around.new.shown in
+    record {
+      shown = omega (arith, c.read_around.ensures.count, c.requires.same);
+      count = c.mark_shown.ensures.count ∙ c.loop-position.invariant.count;
+      drawn = drawn_more (around s cells) (slice_index places) (length places) (length s.template) s.cats c.loop-position.position c.loop-position.words c.mark_shown.new.words shown short
+          (λ i q within low. around-small s c.positions.ensures.source cells i q (c.requires.cells.eroded i (omega (arith, c.requires.places))) (omega arith))
+          (λ i within. shown_around s c.loop-position.position cells shown c.read_around.ensures i (omega (arith, c.requires.places)))
+          c.loop-position.invariant.drawn
+          (adds_as (slice_index places) (slice_index shown) c.loop-position.position c.loop-position.words c.mark_shown.new.words c.len-reach.result (length s.template) c.cats-cats.result s.cats (length places) reach c.cats-cats.ensures c.mark_shown.ensures);
+    }
+
 pub loop-position-init : goal.loop-position-init
 loop-position-init c = record {
   shown = refl;
@@ -35,21 +53,3 @@ mark_shown-requires-clause-words c = λ i within.
       around-small s c.positions.ensures.source c.args.cells.now i c.loop-position.position (c.requires.cells.eroded i inside) (omega (arith, reach, c.loop-position-test.true)),
       c.cats-cats.ensures,
     ))
-
-pub loop-position-preserved : goal.loop-position-preserved
-loop-position-preserved c =
-    let s = c.args.eroded.now in
-    let reach : c.len-reach.result ≡ length s.template = c.len-reach.ensures.len ∙ ap length c.template.ensures in
-    let short : c.loop-position.position < length s.template = omega (arith, reach, c.loop-position-test.true) in
-    let cells = c.args.cells.now in
-    let places = c.args.places.now in
-    let shown = c.read_around.new.shown in
-    record {
-      shown = omega (arith, c.read_around.ensures.count, c.requires.same);
-      count = c.mark_shown.ensures.count ∙ c.loop-position.invariant.count;
-      drawn = drawn_more (around s cells) (slice_index places) (length places) (length s.template) s.cats c.loop-position.position c.loop-position.words c.mark_shown.new.words shown short
-          (λ i q within low. around-small s c.positions.ensures.source cells i q (c.requires.cells.eroded i (omega (arith, c.requires.places))) (omega arith))
-          (λ i within. shown_around s c.loop-position.position cells shown c.read_around.ensures i (omega (arith, c.requires.places)))
-          c.loop-position.invariant.drawn
-          (adds_as (slice_index places) (slice_index shown) c.loop-position.position c.loop-position.words c.mark_shown.new.words c.len-reach.result (length s.template) c.cats-cats.result s.cats (length places) reach c.cats-cats.ensures c.mark_shown.ensures);
-    }
