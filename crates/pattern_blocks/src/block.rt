@@ -33,8 +33,9 @@ pub fn items_with(rows: &Rows, block: u32, event: &[Datum], from: usize, to: usi
     marks
 }
 
-/// Adds the numbers of each item of a block to a row of the tally: that of how many of the first
-/// event the item has. All items have the first `from` data. Rows below `least` aren't asked for.
+/// Adds the numbers of each item of a block to a row of the tally: that of how many of the first data
+/// of the event the item has. All items have the first `from` data. Rows below `least` aren't asked
+/// for.
 pub fn tally_block(
     blocks: &Blocks,
     block: u32,

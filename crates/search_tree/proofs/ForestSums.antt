@@ -1,5 +1,5 @@
 -- Sums over the groups of a store.
-use Rattle.std.proofs.Common.{◌≡◌, ℕ, zero, suc, ◌+◌, ◌-◌, ◌*◌, ◌^◌, ◌<◌, ◌≤◌, List, get_or, replicate, refl, ap, ◌∙◌, arith}
+use Rattle.std.proofs.Common.{◌≡◌, ℕ, zero, suc, ◌+◌, ◌-◌, ◌*◌, ◌^◌, ◌<◌, ◌≤◌, List, get_or, replicate, refl, ap, arith}
 use Rattle.std.specs.List.{range_with_len, sum_by}
 use Rattle.ti_scan.specs.declared.event.Datum.{Datum}
 use Rattle.pattern_blocks.specs.Rows.{BitRows}

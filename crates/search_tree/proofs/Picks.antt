@@ -1,12 +1,15 @@
 -- Patterns that are marked by one position each.
-use Rattle.std.proofs.Common.{◌≡◌, ◌⊎◌, ℕ, ◌+◌, ◌<◌, ◌≤◌, ◌==◌, true, List, length, get_or, set, ap, sym, ◌∙◌, subst, inl, inr, arith}
+use Rattle.std.proofs.Common.{◌≡◌, ◌⊎◌, ℕ, suc, ◌+◌, ◌<◌, ◌==◌, true, List, length, get_or, set, unwrap_or, ap, sym, ◌∙◌, subst, inl, inr, arith}
 use Rattle.std.proofs.lemmas.Bool.{cases_eq}
 use Rattle.std.proofs.lemmas.Bool.Decides.{nat_tests}
 use Rattle.std.proofs.lemmas.List.{get_or-set_other, get_or-set_same, length-set}
-use Rattle.ti_scan.specs.Event.{Source, IsSource}
-use Rattle.pattern_blocks.specs.Drawn.{AddsShown, IsAmong, bit_of, picked}
-use Rattle.search_tree.specs.Building.{ArePicks}
-use Rattle.search_tree.specs.Levels.{AreAlike, many, table}
+use Rattle.mp_base.specs.Grid.{cells_of}
+use Rattle.ti_scan.specs.Eroded.{is_eroded, positions_of}
+use Rattle.ti_scan.specs.Event.{Source, IsSource, cat_around}
+use Rattle.pattern_blocks.specs.Drawn.{IsAmong, bit_of}
+use Rattle.search_tree.specs.Building.{AreDrawn, ArePicked, ArePicks, IsDrawn}
+use Rattle.search_tree.specs.Levels.{AreAlike, AreEroded, around, cell_of, many, table}
+use Rattle.search_tree.proofs.Source.{eroded}
 use Rattle.search_tree.proofs.Whole.{prefix_table}
 
 module _ (places picks : List ℕ) (i at : ℕ) (at_is : at ≡ get_or places i 0) (small : at < length picks) where
@@ -29,37 +32,48 @@ module _ (places picks : List ℕ) (i at : ℕ) (at_is : at ≡ get_or places i 
       earlier other (inl same) = absurd (other (ap (λ k. get_or places k 0) same ∙ sym at_is))
       earlier other (inr differ) = omega arith
 
-module _ (s : Source) (is : IsSource s) (places picks shown : List ℕ) (depth n reach cats : ℕ) (short : depth < length s.template) (n_is : length places ≡ many s) (alike : AreAlike s (length s.template) places) (are : ArePicks places picks) (shown_is : (i : ℕ) → i < many s → get_or shown i 0 ≡ table s i depth) where
-  same-test : (a b : ℕ) → a ≡ b → (a == b) ≡ true
-  same-test a b e = grind (arith, nat_tests)
-
-  -- positions of one rank show one category
-  shown_same : (i j : ℕ) → i < many s → j < many s → get_or places i 0 ≡ get_or places j 0 → get_or shown i 0 ≡ get_or shown j 0
-  shown_same i j i_within j_within same =
-      shown_is i i_within
-      ∙ prefix_table s is (length s.template) i j depth (omega arith) i_within j_within short (sym (alike i j i_within j_within) ∙ same-test (get_or places i 0) (get_or places j 0) same)
-      ∙ sym (shown_is j j_within)
-
-  -- what the picks show is what all positions show
-  pub all_shown : (before after : List ℕ) → AddsShown (picked places picks) (picked shown picks) reach cats depth (length picks) before after → AddsShown (λ i. get_or places i 0) (λ i. get_or shown i 0) reach cats depth (length places) before after
-  all_shown before after adds = record {
-    count = adds.count;
-    marked = λ i within. marked i within;
-    keeps = adds.keeps;
-    only = λ r q k q_small k_small bit. only r q k (adds.only r q k q_small k_small bit);
+module _ (s : Source) (is : IsSource s) (places picks own cells : List ℕ) (n_is : length places ≡ many s) (are : ArePicks places picks) (owns : ArePicked places picks own) (stand : ArePicked (positions_of s.image s.template) picks cells) where
+  -- the cells of picks are eroded
+  pub picked_eroded : ((i : ℕ) → i < many s → cell_of s i < cells_of s.image.sides) → AreEroded s cells
+  picked_eroded inside = record {
+    inside = λ r below. subst (λ (c : ℕ). c < cells_of s.image.sides) (sym (at r below)) (inside (get_or picks r 0) (within r below));
+    eroded = λ r below. ap (is_eroded s.image s.template) (at r below) ∙ eroded s is (get_or picks r 0) (within r below);
   }
     where
-      marked : (i : ℕ) → i < length places → bit_of after reach cats (get_or places i 0) depth (get_or shown i 0) ≡ 1
-      marked i within =
-          let p = get_or picks (get_or places i 0) 0 in
-          let p_within : p < length places = are.within (get_or places i 0) (are.known i within) in
-          let same = shown_same p i (omega (arith, p_within, n_is)) (omega (arith, within, n_is)) (are.own i within) in
-          ap (λ r. bit_of after reach cats r depth (get_or shown i 0)) (sym (are.own i within))
-          ∙ ap (bit_of after reach cats (get_or places p 0) depth) (sym same)
-          ∙ adds.marked (get_or places i 0) (are.known i within)
+      at : (r : ℕ) → r < length cells → get_or cells r 0 ≡ cell_of s (get_or picks r 0)
+      at r below = stand.each r (omega (arith, stand.count))
 
-      only : (r q k : ℕ) → (bit_of before reach cats r q k ≡ 1) ⊎ ((q ≡ depth) × IsAmong (picked places picks) (picked shown picks) (length picks) r k) → (bit_of before reach cats r q k ≡ 1) ⊎ ((q ≡ depth) × IsAmong (λ i. get_or places i 0) (λ i. get_or shown i 0) (length places) r k)
-      only r q k (inl old) = inl old
-      only r q k (inr new) =
-          let found = new.1 in
-          inr (new.0, (get_or picks found.0 0, are.within found.0 found.1, found.2, found.3))
+      within : (r : ℕ) → r < length cells → get_or picks r 0 < many s
+      within r below = omega (arith, are.within r (omega (arith, stand.count)))
+
+  module _ (alike : AreAlike s (length s.template) places) where
+    same-test : (a b : ℕ) → a ≡ b → (a == b) ≡ true
+    same-test a b e = grind (arith, nat_tests)
+
+    -- positions of one rank show one pattern
+    table_same : (i j q : ℕ) → i < many s → j < many s → q < length s.template → get_or places i 0 ≡ get_or places j 0 → table s i q ≡ table s j q
+    table_same i j q i_within j_within short same = prefix_table s is (length s.template) i j q (omega arith) i_within j_within short (sym (alike i j i_within j_within) ∙ same-test (get_or places i 0) (get_or places j 0) same)
+
+    -- what is marked of the picks is marked of all positions
+    pub all_drawn : (words : List ℕ) → AreDrawn (around s cells) (λ i. get_or own i 0) (length own) (length s.template) s.cats (length s.template) words → IsDrawn s (λ i. get_or places i 0) (length s.template) words
+    all_drawn words drawn = record {
+      marked = λ i q within short. marked i q within short;
+      only = λ r q k q_small k_small bit. only r q k (drawn.only r q k q_small k_small bit);
+    }
+      where
+        marked : (i q : ℕ) → i < many s → q < length s.template → bit_of words (length s.template) s.cats (get_or places i 0) q (table s i q) ≡ 1
+        marked i q within short =
+            let r = get_or places i 0 in
+            let known : r < length picks = are.known i (omega (arith, within, n_is)) in
+            let p = get_or picks r 0 in
+            let p_within : p < many s = omega (arith, are.within r known, n_is) in
+            let place : get_or own r 0 ≡ r = owns.each r known ∙ are.own i (omega (arith, within, n_is)) in
+            let shown : around s cells r q ≡ table s i q = ap (λ c. unwrap_or (cat_around s c (suc q)) 0) (stand.each r known) ∙ table_same p i q p_within within short (are.own i (omega (arith, within, n_is))) in
+            ap (λ x. bit_of words (length s.template) s.cats x q (table s i q)) (sym place)
+            ∙ ap (bit_of words (length s.template) s.cats (get_or own r 0) q) (sym shown)
+            ∙ drawn.marked r q (omega (arith, known, owns.count)) short
+
+        only : (r q k : ℕ) → IsAmong (λ i. get_or own i 0) (λ i. around s cells i q) (length own) r k → IsAmong (λ i. get_or places i 0) (λ i. table s i q) (many s) r k
+        only r q k found =
+            let known : found.0 < length picks = omega (arith, found.1, owns.count) in
+            (get_or picks found.0 0, omega (arith, are.within found.0 known, n_is), sym (owns.each found.0 known) ∙ found.2, ap (λ c. unwrap_or (cat_around s c (suc q)) 0) (sym (stand.each found.0 known)) ∙ found.3)

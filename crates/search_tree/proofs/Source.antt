@@ -6,7 +6,7 @@ use Rattle.std.proofs.lemmas.List.FromFn.{fill_by_all}
 use Rattle.std.proofs.lemmas.List.Sums.{AllPass-from_list_all}
 use Rattle.mp_base.specs.declared.cell.Vector.{Vector}
 use Rattle.mp_base.specs.Counts.{is_cat}
-use Rattle.mp_base.specs.Grid.{IsBelow, cat_at, cat_of, cell_at}
+use Rattle.mp_base.specs.Grid.{IsBelow, cat_at, cat_of, cell_at, cells_of}
 use Rattle.mp_base.proofs.Tallies.{cat_of-below, get_or-tally}
 use Rattle.ti_scan.specs.declared.event.Datum.{Datum}
 use Rattle.ti_scan.specs.Eroded.{is_eroded, positions_of}
@@ -14,7 +14,7 @@ use Rattle.ti_scan.specs.Event.{Source, IsSource, cat_around, counts_of, shows, 
 use Rattle.ti_scan.specs.Rising.{RisesFrom}
 use Rattle.search_tree.proofs.Eroding.{eroded_at}
 use Rattle.search_tree.proofs.Sums.{count-filter, count-pointwise, sum-mapped}
-use Rattle.search_tree.specs.Levels.{cell_of, centre, found, has_each, many, table}
+use Rattle.search_tree.specs.Levels.{AreEroded, around, cell_of, centre, found, has_each, many, table}
 
 some_is : (v : Option ℕ) → is_some v ≡ true → v ≡ Some (unwrap_or v 0)
 some_is None e = absurd (false≢true e)
@@ -30,7 +30,7 @@ in_template (x ∷ xs) zero within = (x, refl, refl)
 in_template (x ∷ xs) (suc i) within = in_template xs i (omega arith)
 
 module _ (s : Source) (is : IsSource s) where
-  eroded : (i : ℕ) → i < many s → is_eroded s.image s.template (cell_of s i) ≡ true
+  pub eroded : (i : ℕ) → i < many s → is_eroded s.image s.template (cell_of s i) ≡ true
   eroded i within = eroded_at s.image s.template (positions_of s.image s.template) i (cell_of s i) refl within (sym (default (positions_of s.image s.template) i (cell_of s i) within))
     where
       default : (xs : List ℕ) (i d : ℕ) → i < length xs → get_or xs i d ≡ get_or xs i 0
@@ -38,13 +38,23 @@ module _ (s : Source) (is : IsSource s) where
       default (x ∷ xs) zero d below = refl
       default (x ∷ xs) (suc i) d below = default xs i d (omega arith)
 
-  pub table_known : (i q : ℕ) → i < many s → q < length s.template → is_some (cat_around s (cell_of s i) (suc q)) ≡ true
-  table_known i q within short =
+  -- each listed position is eroded
+  pub positions_eroded : (cells : List ℕ) → cells ≡ positions_of s.image s.template → ((i : ℕ) → i < length cells → get_or cells i 0 < cells_of s.image.sides) → AreEroded s cells
+  positions_eroded cells are inside = record {
+    inside = inside;
+    eroded = λ i within. ap (λ (l : List ℕ). is_eroded s.image s.template (get_or l i 0)) are ∙ eroded i (omega (arith, ap length are));
+  }
+
+  around_known : (c q : ℕ) → is_eroded s.image s.template c ≡ true → q < length s.template → is_some (cat_around s c (suc q)) ≡ true
+  around_known c q there short =
       let e = in_template s.template (suc q - 1) (omega arith) in
-      let all = (and_parts (is_some (cat_of s.image.cells (cell_of s i))) (list_all (λ v. is_some (cat_at s.image (cell_of s i) v)) s.template) (eroded i within)).1 in
-      ap (λ o. is_some (option_and_then (cat_at s.image (cell_of s i)) o)) e.1
-      ∙ ap (λ v. is_some (cat_at s.image (cell_of s i) v)) (sym e.2)
-      ∙ AllPass-from_list_all (λ v. is_some (cat_at s.image (cell_of s i) v)) s.template all (suc q - 1) e.0 (omega arith)
+      let all = (and_parts (is_some (cat_of s.image.cells c)) (list_all (λ v. is_some (cat_at s.image c v)) s.template) there).1 in
+      ap (λ o. is_some (option_and_then (cat_at s.image c) o)) e.1
+      ∙ ap (λ v. is_some (cat_at s.image c v)) (sym e.2)
+      ∙ AllPass-from_list_all (λ v. is_some (cat_at s.image c v)) s.template all (suc q - 1) e.0 (omega arith)
+
+  pub table_known : (i q : ℕ) → i < many s → q < length s.template → is_some (cat_around s (cell_of s i) (suc q)) ≡ true
+  table_known i q within short = around_known (cell_of s i) q (eroded i within) short
 
   pub table_is : (i q : ℕ) → i < many s → q < length s.template → cat_around s (cell_of s i) (suc q) ≡ Some (table s i q)
   table_is i q within short = some_is (cat_around s (cell_of s i) (suc q)) (table_known i q within short)
@@ -59,6 +69,10 @@ module _ (s : Source) (is : IsSource s) where
       at_vector : (o : Option Vector) → IsBelow s.cats (option_and_then (cat_at s.image c) o)
       at_vector None = tt
       at_vector (Some v) = at_cell (cell_at s.image.sides c v)
+
+  -- around an eroded cell there are categories of the source
+  pub around-small : (cells : List ℕ) (i q : ℕ) → is_eroded s.image s.template (get_or cells i 0) ≡ true → q < length s.template → around s cells i q < s.cats
+  around-small cells i q there short = some-below s.cats (cat_around s (get_or cells i 0) (suc q)) (around_known (get_or cells i 0) q there short) (around-below (get_or cells i 0) q)
 
   pub table-below : (i q : ℕ) → i < many s → q < length s.template → table s i q < s.cats
   table-below i q within short = some-below s.cats (cat_around s (cell_of s i) (suc q)) (table_known i q within short) (around-below (cell_of s i) q)

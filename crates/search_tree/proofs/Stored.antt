@@ -1,9 +1,10 @@
 -- The rows of a whole tally, and what they say of a store's patterns.
-use Rattle.std.proofs.Common.{◌≡◌, ◌⊎◌, ℕ, zero, suc, ◌+◌, ◌-◌, ◌*◌, ◌^◌, ◌<◌, ◌≤◌, ◌==◌, Bool, true, false, cond, ◌&&◌, nat_le, List, [], ◌∷◌, length, get_or, map, take, sum, slice_get, Some, refl, ap, sym, ◌∙◌, inl, inr, arith}
+use Rattle.std.proofs.Common.{◌≡◌, ◌⊎◌, ℕ, zero, suc, ◌+◌, ◌-◌, ◌*◌, ◌^◌, ◌<◌, ◌≤◌, ◌==◌, Bool, true, false, cond, ◌&&◌, nat_le, List, [], ◌∷◌, ◌++◌, length, get_or, map, take, sum, slice_get, Some, refl, ap, sym, ◌∙◌, inl, inr, arith}
 use Rattle.std.specs.List.{flat_map, list_all, range_with_len, sum_by}
 use Rattle.std.proofs.lemmas.Bool.{cases_lt}
-use Rattle.std.proofs.lemmas.List.{length-take, take-take}
-use Rattle.std.proofs.lemmas.List.FromFn.{get_or-map-range_with_len}
+use Rattle.std.proofs.lemmas.List.{length-append, length-take, take-take}
+use Rattle.std.proofs.lemmas.List.Concat.{flat_map-cons}
+use Rattle.std.proofs.lemmas.List.FromFn.{get_or-map-range_with_len, length-map-range_with_len, length-range_with_len}
 use Rattle.std.proofs.lemmas.List.Sums.{sum_by-le-sum_by}
 use Rattle.mp_base.specs.Counts.{is_cat}
 use Rattle.ti_scan.specs.declared.event.Datum.{Datum}
@@ -50,7 +51,27 @@ take-whole : {X : Type 0} (xs : List X) → take (length xs) xs ≡ xs
 take-whole [] = refl
 take-whole (x ∷ xs) = ap (λ l. x ∷ l) (take-whole xs)
 
+-- lists of one length, one after another
+flat_map-even : {X : Type 0} (f : ℕ → List X) (w : ℕ) → ((i : ℕ) → length (f i) ≡ w) → (is : List ℕ) → length (flat_map f is) ≡ length is * w
+flat_map-even f w each [] = omega arith
+flat_map-even f w each (i ∷ is) =
+    let first : length (f i ++ flat_map f is) ≡ length (f i) + length (flat_map f is) = length-append (f i) (flat_map f is) in
+    omega (arith, ap length (flat_map-cons f i is), first, each i, flat_map-even f w each is)
+
 module _ (shown : BitRows) (counts : PlaneRows) where
+  -- a group has 64 blocks of 64 patterns
+  pub length-patterns_in : (n : ℕ) → length (patterns_in shown counts n) ≡ n * 4096
+  unfolding patterns_in
+  length-patterns_in n =
+      flat_map-even (λ g. flat_map (λ s. map (pattern_at shown counts (g * 64 + s)) (range_with_len 0 64)) (range_with_len 0 64)) 4096
+      (λ g. flat_map-even (λ s. map (pattern_at shown counts (g * 64 + s)) (range_with_len 0 64)) 64 (λ s. length-map-range_with_len (pattern_at shown counts (g * 64 + s)) 0 64) (range_with_len 0 64))
+      (range_with_len 0 n) ∙ ap (λ m. m * 4096) (length-range_with_len 0 n)
+
+  pub bits-product : (n g p r c : ℕ) → g ≡ n → p ≡ 4096 → r ≡ shown.reach → c ≡ shown.cats → g * p * r * c ≡ length (patterns_in shown counts n) * shown.reach * shown.cats
+  bits-product n g p r c g_is p_is r_is c_is =
+      let count = length-patterns_in n in
+      cc
+
   pub gain-few : (n : ℕ) (event : List Datum) (row k : ℕ) → forest_gain shown counts n event row k ≤ holders shown counts n [] k
   unfolding forest_gain blocks_gain block_gain holders
   gain-few n event row k =

@@ -1,24 +1,41 @@
 -- What is built of the patterns of a source, by rank.
-use Rattle.std.specs.Prelude.{◌≡◌, ℕ, ◌+◌, ◌*◌, ◌<◌, ◌==◌, ◌&&◌, List, length, slice_index}
+use Rattle.std.specs.Prelude.{◌≡◌, ℕ, ◌+◌, ◌*◌, ◌/◌, ◌<◌, ◌≤◌, ◌==◌, ◌&&◌, List, length, slice_index}
 use Rattle.std.specs.List.{count_by, range_with_len}
 use Rattle.ti_scan.specs.Event.{Source}
 use Rattle.pattern_blocks.specs.Drawn.{IsAmong, bit_of}
 use Rattle.pattern_blocks.specs.Planes.{PlaneRows}
 use Rattle.pattern_blocks.specs.Rows.{BitRows}
 use Rattle.pattern_blocks.specs.Tally.{number_of}
-use Rattle.search_tree.specs.Levels.{centre, many, table}
+use Rattle.search_tree.specs.Levels.{Table, around, centre, many, table}
 use Rattle.search_tree.specs.Ranks.{place_slot}
 
--- of each rank it is marked what its positions show at the first template positions, and nothing else
-pub record IsDrawn (s : Source) (place : ℕ → ℕ) (depth : ℕ) (words : List ℕ) : Type 0 where
-  pub marked : (i q : ℕ) → i < many s → q < depth → bit_of words (length s.template) s.cats (place i) q (table s i q) ≡ 1
-  pub only : (r q k : ℕ) → q < length s.template → k < s.cats → bit_of words (length s.template) s.cats r q k ≡ 1 → IsAmong place (λ i. table s i q) (many s) r k
+-- each of n patterns is marked at its place with what it shows at the first template positions, and nothing else is
+pub record AreDrawn (pattern : Table) (place : ℕ → ℕ) (n reach cats depth : ℕ) (words : List ℕ) : Type 0 where
+  pub marked : (i q : ℕ) → i < n → q < depth → bit_of words reach cats (place i) q (pattern i q) ≡ 1
+  pub only : (r q k : ℕ) → q < reach → k < cats → bit_of words reach cats r q k ≡ 1 → IsAmong place (λ i. pattern i q) n r k
+
+-- the same of the patterns around these cells
+abbrev pub AreDrawnAround : Source → List ℕ → List ℕ → ℕ → List ℕ → Type 0
+AreDrawnAround s cells places depth words = AreDrawn (around s cells) (slice_index places) (length places) (length s.template) s.cats depth words
+
+-- the same of the patterns of all positions
+abbrev pub IsDrawn : Source → (ℕ → ℕ) → ℕ → List ℕ → Type 0
+IsDrawn s place depth words = AreDrawn (table s) place (many s) (length s.template) s.cats depth words
 
 -- for each rank that a position has, one position with that rank
 pub record ArePicks (places picks : List ℕ) : Type 0 where
   pub within : (r : ℕ) → r < length picks → slice_index picks r < length places
   pub known : (i : ℕ) → i < length places → slice_index places i < length picks
   pub own : (i : ℕ) → i < length places → slice_index places (slice_index picks (slice_index places i)) ≡ slice_index places i
+
+-- there are so many words for each block up to that of a pattern
+abbrev pub HasBlock : ℕ → ℕ → List ℕ → Type 0
+HasBlock width place words = (place / 64 + 1) * width ≤ length words
+
+-- the picked items of a list
+pub record ArePicked (items picks chosen : List ℕ) : Type 0 where
+  pub count : length chosen ≡ length picks
+  pub each : (r : ℕ) → r < length picks → slice_index chosen r ≡ slice_index items (slice_index picks r)
 
 -- how many of the first n positions have slot j
 unfoldable pub in_slot : List ℕ → ℕ → List ℕ → ℕ → ℕ → ℕ

@@ -1,9 +1,9 @@
 -- What an image shows around each of its eroded positions, and the ranks of these patterns.
-use Rattle.std.specs.Prelude.{◌≡◌, ℕ, suc, ◌+◌, ◌-◌, ◌*◌, ◌<◌, ◌≤◌, ◌==◌, Bool, ◌&&◌, List, Some, length, slice_index, unwrap_or}
+use Rattle.std.specs.Prelude.{◌≡◌, ℕ, suc, ◌+◌, ◌-◌, ◌*◌, ◌<◌, ◌≤◌, ◌==◌, Bool, true, ◌&&◌, List, Some, length, slice_index, unwrap_or}
 use Rattle.std.specs.List.{count_by, list_all, range_with_len, sum_by}
-use Rattle.mp_base.specs.Grid.{cat_of}
+use Rattle.mp_base.specs.Grid.{cat_of, cells_of}
 use Rattle.ti_scan.specs.declared.event.Datum.{Datum}
-use Rattle.ti_scan.specs.Eroded.{positions_of}
+use Rattle.ti_scan.specs.Eroded.{is_eroded, positions_of}
 use Rattle.ti_scan.specs.Event.{Source, cat_around}
 use Rattle.search_tree.specs.Prefixes.{prefixes, same_prefix}
 
@@ -19,9 +19,18 @@ many s = length (positions_of s.image s.template)
 abbrev pub Table : Type 0
 Table = ℕ → ℕ → ℕ
 
+-- the category at template position q + 1 around cell number i of a list
+abbrev pub around : Source → List ℕ → Table
+around s cells i q = unwrap_or (cat_around s (slice_index cells i) (suc q)) 0
+
 -- the category at template position q + 1 around position i
 abbrev pub table : Source → Table
 table s i q = unwrap_or (cat_around s (cell_of s i) (suc q)) 0
+
+-- each of these cells is an eroded position
+pub record AreEroded (s : Source) (cells : List ℕ) : Type 0 where
+  pub inside : (i : ℕ) → i < length cells → slice_index cells i < cells_of s.image.sides
+  pub eroded : (i : ℕ) → i < length cells → is_eroded s.image s.template (slice_index cells i) ≡ true
 
 -- the category of position i
 abbrev pub centre : Source → ℕ → ℕ

@@ -1,9 +1,11 @@
 // A position for each rank.
 ghost use Rattle.std.specs.Prelude.{◌≡◌, ℕ, ◌<◌, ◌^◌, IfOk, length, replicate, slice_index};
-ghost use Rattle.search_tree.specs.Building.{ArePicks};
+ghost use Rattle.ti_scan.specs.Eroded.{positions_of};
+ghost use Rattle.search_tree.specs.Building.{ArePicked, ArePicks};
 
-use mp_base::NoMemory;
+use mp_base::{CellId, NoMemory};
 use std::alloc::Global;
+use ti_scan::Eroded;
 
 // How many picks there are: one for each rank, and none where no position is.
 fn count_of_picks(positions: usize, ranks: u32) -> usize
@@ -36,4 +38,33 @@ pub fn picks_of(alloc: Global, places: &[u32], ranks: u32) -> Result<Vec<u32>, N
     let mut picks = vec![in alloc; 0u32; count]?;
     pick(places, &mut picks);
     Ok(picks)
+}
+
+/// The places of the picked positions.
+pub fn picked_places(alloc: Global, places: &[u32], picks: &[u32]) -> Result<Vec<u32>, NoMemory>
+    requires { (r : ℕ) → r < length picks.now → slice_index picks.now r < length places.now }
+    ensures { IfOk result (λ own. ArePicked places.now picks.now own.items) }
+{
+    let mut own = Vec::with_capacity(alloc, picks.len())?;
+    for pick in picks {
+        own.push(places[*pick as usize])?;
+    }
+    Ok(own)
+}
+
+/// The cells of the picked positions.
+pub fn picked_cells(
+    alloc: Global,
+    eroded: &Eroded<'_>,
+    picks: &[u32],
+) -> Result<Vec<CellId>, NoMemory>
+    requires { (r : ℕ) → r < length picks.now → slice_index picks.now r < length (positions_of eroded.now.image eroded.now.template) }
+    ensures { IfOk result (λ cells. ArePicked (positions_of eroded.now.image eroded.now.template) picks.now cells.items) }
+{
+    let positions = eroded.positions();
+    let mut cells = Vec::with_capacity(alloc, picks.len())?;
+    for pick in picks {
+        cells.push(positions[*pick as usize])?;
+    }
+    Ok(cells)
 }

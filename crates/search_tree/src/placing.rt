@@ -31,7 +31,7 @@ fn deepen(
     requires shown { AreShown eroded.now (_depth + 1) (positions_of eroded.now.image eroded.now.template) shown.now }
     ensures { OnOk result (IsRanked eroded.now (_depth + 1) ranks.new.places.items ranks.new.classes ranks.new.nodes) }
 {
-    let _source = eroded.positions();
+    let _ = eroded.positions();
     let cats = eroded.cats();
     let classes = ranks.classes;
     let next = refine_places(alloc, &mut ranks.places, cats, shown, classes)?;

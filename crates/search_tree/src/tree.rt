@@ -4,7 +4,7 @@ ghost use Rattle.ti_scan.specs.Event.{StandsFor};
 ghost use Rattle.search_tree.specs.Building.{IsBuilt};
 ghost use Rattle.search_tree.specs.Groups.{SumsUp};
 ghost use Rattle.search_tree.specs.Levels.{IsRanked};
-ghost use Rattle.search_tree.specs.Patterns.{pattern_counts, reach_of};
+ghost use Rattle.search_tree.specs.Patterns.{bits_of, pattern_counts, reach_of};
 ghost use Rattle.search_tree.specs.Prefixes.{all_prefixes};
 
 use crate::answering::{counts_of, longest_of};
@@ -17,6 +17,9 @@ use pattern_blocks::Blocks;
 use std::alloc::Global;
 use std::marker::Model;
 use ti_scan::{CountStore, Eroded, Event, LongestPrefix};
+
+// How many patterns a group has: 64 blocks of 64.
+const PER_GROUP: u32 = 4096;
 
 /// The search tree of a training image under a template (Strebelle 2002), as the patterns at the
 /// ends of its branches: they stand in the order of the branches, in blocks and groups of blocks.
@@ -48,31 +51,12 @@ fn whole(eroded: &Eroded<'_>, blocks: Blocks, groups: Groups, ranks: Ranks) -> S
     ensures stands { StandsFor pattern_counts reach_of result eroded.now }
     ensures nodes { result.nodes ≡ all_prefixes eroded.now }
 {
-    let _source = eroded.positions();
+    let _ = eroded.positions();
     SearchTree {
         blocks,
         groups,
         nodes: ranks.nodes,
     }
-}
-
-// The groups of blocks of an image.
-fn grouped(
-    alloc: Global,
-    eroded: &Eroded<'_>,
-    blocks: &Blocks,
-    _ranks: &Ranks,
-    count: u32,
-) -> Result<Groups, NoMemory>
-    requires ranked { IsRanked eroded.now (length eroded.now.template) _ranks.now.places.items _ranks.now.classes _ranks.now.nodes }
-    requires built { IsBuilt eroded.now _ranks.now.places.items count blocks.now.shown blocks.now.counts }
-    requires room { _ranks.now.classes < count * 4096 }
-    requires few { count ≤ 2 ^ 9 }
-    ensures count { IfOk result (λ groups. groups.count ≡ count) }
-    ensures sums { IfOk result (λ groups. (g : ℕ) → g < count → SumsUp blocks.now.shown blocks.now.counts groups.any groups.all groups.totals g) }
-{
-    let _source = eroded.positions();
-    groups_of(alloc, blocks, count)
 }
 
 impl SearchTree {
@@ -81,11 +65,11 @@ impl SearchTree {
         ensures stands { IfOk result (λ tree. StandsFor pattern_counts reach_of tree eroded.now) }
         ensures nodes { IfOk result (λ tree. tree.nodes ≡ all_prefixes eroded.now) }
     {
-        let _source = eroded.positions();
+        let _ = eroded.positions();
         let ranks = ranks_of(alloc, eroded)?;
-        let count = ranks.classes / 4096 + 1;
+        let count = ranks.classes / PER_GROUP + 1;
         let blocks = blocks_of(alloc, eroded, &ranks.places, ranks.classes, count)?;
-        let groups = grouped(alloc, eroded, &blocks, &ranks, count)?;
+        let groups = groups_of(alloc, &blocks, count)?;
         Ok(whole(eroded, blocks, groups, ranks))
     }
 
@@ -96,6 +80,16 @@ impl SearchTree {
         ensures { result ≡ self.now.nodes }
     {
         self.nodes
+    }
+
+    /// How many bits say what its patterns show: one for each pattern, position of the template and
+    /// category. Nearly all of its memory goes into these. What fills up the last group counts too.
+    pub fn bits(&self) -> u64
+        ensures { result ≡ bits_of self.now }
+    {
+        let shown = &self.blocks.shown;
+        let patterns = u64::from(self.groups.count) * u64::from(PER_GROUP);
+        patterns * u64::from(shown.reach()) * u64::from(shown.cats())
     }
 }
 

@@ -1,8 +1,8 @@
 // Search trees that are kept, each with what it was built from, for further levels over the same.
-ghost use Rattle.std.specs.Prelude.{◌≡◌, ◌≤◌, ◌⊎◌, ◌*◌, ◌^◌, [], ◌∷◌, ◌++◌, IfOk, IfSome, IsTrue};
+ghost use Rattle.std.specs.Prelude.{◌≡◌, ◌≤◌, ◌⊎◌, ◌^◌, [], ◌∷◌, ◌++◌, IfOk, IfSome, IsTrue};
 ghost use Rattle.ti_scan.specs.Event.{StandsFor};
-ghost use Rattle.search_tree.specs.Patterns.{pattern_counts, reach_of};
-ghost use Rattle.seq_engine.specs.Kept.{bytes_in};
+ghost use Rattle.search_tree.specs.Patterns.{bits_of, pattern_counts, reach_of};
+ghost use Rattle.seq_engine.specs.Kept.{bits_in};
 
 use mp_base::{Grid, NoMemory, Vector};
 use search_tree::SearchTree;
@@ -13,8 +13,8 @@ use ti_scan::Eroded;
 // How many trees are kept at most: as many as a setup has levels.
 const MOST_TREES: usize = 8;
 
-// How many bytes the nodes of all kept trees take at most.
-const MOST_BYTES: u64 = 1 << 28;
+// How many bits the patterns of all kept trees have at most: those of 2^28 bytes.
+const MOST_BITS: u64 = 1 << 31;
 
 /// A search tree with copies of the image and of the template that it was built from.
 #[derive(Drop)]
@@ -27,12 +27,12 @@ pub struct KeptTree {
 
 impl Model for KeptTree {
     ghost use Rattle.ti_scan.specs.Event.{Source, StandsFor};
-    ghost use Rattle.search_tree.specs.Patterns.{pattern_counts, reach_of};
+    ghost use Rattle.search_tree.specs.Patterns.{bits_of, pattern_counts, reach_of};
     ghost use Rattle.seq_engine.specs.Kept.{Kept};
 
     ghost Value = { Kept };
 
-    ghost view = { λ k. record { source = record { image = k.image; template = k.vectors.items; cats = k.cats }; nodes = k.tree.nodes } };
+    ghost view = { λ k. record { source = record { image = k.image; template = k.vectors.items; cats = k.cats }; bits = bits_of k.tree } };
 
     ghost invariant = { λ k. StandsFor pattern_counts reach_of k.tree (record { image = k.image; template = k.vectors.items; cats = k.cats }) };
 }
@@ -51,19 +51,11 @@ fn are_same_vectors(vectors: &[Vector], others: &[Vector]) -> bool
     vectors == others
 }
 
-// How many bytes the nodes of a tree take.
-fn bytes_of_nodes(nodes: u32, cats: u8) -> u64
-    requires { cats ≤ 8 }
-    ensures { result ≡ nodes * cats * 8 }
-{
-    u64::from(nodes) * u64::from(cats) * 8
-}
-
 impl KeptTree {
     // The tree with copies of what it was built from.
     fn new(alloc: Global, eroded: &Eroded<'_>, tree: SearchTree) -> Result<KeptTree, NoMemory>
         requires { StandsFor pattern_counts reach_of tree eroded.now }
-        ensures { IfOk result (λ kept. kept ≡ record { source = eroded.now; nodes = tree.nodes }) }
+        ensures { IfOk result (λ kept. kept ≡ record { source = eroded.now; bits = bits_of tree }) }
     {
         let image = eroded.image().copy(alloc)?;
         let vectors = eroded.template().vectors().to_vec(alloc)?;
@@ -92,22 +84,22 @@ impl KeptTree {
     }
 }
 
-/// The trees that a runner has built and kept. Their nodes take at most 2^28 bytes.
+/// The trees that a runner has built and kept. What their patterns show takes at most 2^31 bits.
 #[derive(Drop)]
 pub struct KeptTrees {
     trees: Vec<KeptTree>,
-    bytes: u64,
+    bits: u64,
 }
 
 impl Model for KeptTrees {
     ghost use Rattle.std.specs.Prelude.{◌≡◌, ◌≤◌, ◌^◌, List};
-    ghost use Rattle.seq_engine.specs.Kept.{Kept, bytes_in};
+    ghost use Rattle.seq_engine.specs.Kept.{Kept, bits_in};
 
     ghost Value = { List Kept };
 
     ghost view = { λ k. k.trees.items };
 
-    ghost invariant = { λ k. (k.bytes ≡ bytes_in k.trees.items) × (k.bytes ≤ 2 ^ 28) };
+    ghost invariant = { λ k. (k.bits ≡ bits_in k.trees.items) × (k.bits ≤ 2 ^ 31) };
 }
 
 impl KeptTrees {
@@ -117,7 +109,7 @@ impl KeptTrees {
     {
         KeptTrees {
             trees: Vec::new(alloc),
-            bytes: 0,
+            bits: 0,
         }
     }
 
@@ -135,22 +127,21 @@ impl KeptTrees {
     }
 
     /// Keeps the tree of these eroded positions. It is let go instead where there are enough trees,
-    /// where the nodes of all would take too many bytes, or where memory for the copies runs out.
+    /// where the patterns of all would have too many bits, or where memory for the copies runs out.
     pub fn keep(&mut self, alloc: Global, eroded: &Eroded<'_>, tree: SearchTree)
         requires { StandsFor pattern_counts reach_of tree eroded.now }
-        ensures kept { (self.new ≡ self.old) ⊎ (self.new ≡ self.old ++ (record { source = eroded.now; nodes = tree.nodes }) ∷ []) }
-        ensures few { bytes_in self.new ≤ 2 ^ 28 }
+        ensures kept { (self.new ≡ self.old) ⊎ (self.new ≡ self.old ++ (record { source = eroded.now; bits = bits_of tree }) ∷ []) }
+        ensures few { bits_in self.new ≤ 2 ^ 31 }
     {
-        let _source = eroded.positions();
-        let bytes = self.bytes + bytes_of_nodes(tree.nodes(), eroded.cats());
-        if self.trees.len() >= MOST_TREES || bytes > MOST_BYTES {
+        let bits = tree.bits();
+        if self.trees.len() >= MOST_TREES || bits > MOST_BITS - self.bits {
             return;
         }
         let Ok(kept) = KeptTree::new(alloc, eroded, tree) else {
             return;
         };
         if self.trees.push(kept).is_ok() {
-            self.bytes = bytes;
+            self.bits += bits;
         }
     }
 }

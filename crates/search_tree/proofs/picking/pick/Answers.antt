@@ -1,4 +1,4 @@
-use Rattle.std.proofs.Common.{◌≡◌, ℕ, ◌<◌, ◌∙◌, get_or, length, refl, ap, slice_index, arith}
+use Rattle.std.proofs.Common.{◌<◌, ◌∙◌, get_or, length, refl, ap, slice_index, arith}
 use Rattle.std.proofs.lemmas.List.{length-set}
 use Rattle.search_tree.proofs.ForestSums.{zeros}
 use Rattle.search_tree.proofs.Picks.{pick_own, pick_within}

@@ -8,8 +8,8 @@ use Rattle.search_tree.proofs.placing.deepen.Goals as goal
 pub overflow_add-ranks : goal.overflow_add-ranks
 overflow_add-ranks c =
     let s = c.args.eroded.now in
-    let is = c.positions-source.ensures.source in
-    let few : many s ≤ 2 ^ 20 = omega (arith, ap length c.positions-source.ensures.positions, c.positions-source.ensures.few) in
+    let is = c.positions.ensures.source in
+    let few : many s ≤ 2 ^ 20 = omega (arith, ap length c.positions.ensures.positions, c.positions.ensures.few) in
     let old = c.args.ranks.now in
     let refined = subst (λ (p : List ℕ). IsRefined p c.cats-cats.result c.args.shown.now c.in_ok-next.next c.refine_places.new.places) c.deref_mut.ensures.value c.in_ok-next.ensures in
     let le = next-le s is c.args._depth old.places.items old.classes old.nodes c.requires.ranked c.requires.depth c.args.shown.now c.requires.shown c.cats-cats.result c.in_ok-next.next c.refine_places.new.places c.cats-cats.ensures refined in
@@ -19,7 +19,7 @@ overflow_add-ranks c =
 pub returns : goal.returns
 returns c =
     let s = c.args.eroded.now in
-    let is = c.positions-source.ensures.source in
+    let is = c.positions.ensures.source in
     let old = c.args.ranks.now in
     let refined = subst (λ (p : List ℕ). IsRefined p c.cats-cats.result c.args.shown.now c.in_ok-next.next c.refine_places.new.places) c.deref_mut.ensures.value c.in_ok-next.ensures in
     let ranked = deeper s is c.args._depth old.places.items old.classes old.nodes c.requires.ranked c.requires.depth c.args.shown.now c.requires.shown c.cats-cats.result c.in_ok-next.next c.refine_places.new.places c.cats-cats.ensures refined in
