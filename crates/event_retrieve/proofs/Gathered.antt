@@ -8,6 +8,8 @@ use Rattle.mp_base.specs.declared.cell.Vector.{Vector}
 use Rattle.mp_base.specs.Grid.{cat_of, cat_at, cell_at}
 use Rattle.ti_scan.specs.declared.event.Datum.{Datum}
 use Rattle.ti_scan.specs.Event.{IsWithin}
+use Rattle.ti_scan.specs.Rising.{RisesFrom, next_position}
+use Rattle.ti_scan.proofs.RisingLemmas.{next_from-le, RisesFrom-push, RisesFrom-wider}
 use Rattle.event_retrieve.specs.declared.gather.Wanted.TheVariants.{Done, Later, Cell}
 use Rattle.event_retrieve.specs.Plan.{Plan, nodes_in, cell_of, cell_at_position, datum_at, grid_at, known, IsPath, IsFront}
 use Rattle.event_retrieve.specs.Retrieval.{up_to}
@@ -188,3 +190,19 @@ read_after p path seen i m c later within turn early = record {
     unknown_before None is none = refl
     unknown_before (Some k) is none =
         absurd (none_some k (sym none ∙ stays_until p (sequential p) path (IsFront-log p (sequential p) (IsLog-sequential p)) seen m c k later (omega (arith, length-log_of p (nodes_in p))) is))
+
+-- data before a position leave room for one there
+pub room : (position : ℕ) (event : List Datum) → 1 ≤ position → RisesFrom 1 (position - 1) event → next_position event ≤ position
+room position event some rising = omega (arith, some, next_from-le 1 (position - 1) event (omega arith) rising)
+
+-- what is put rises
+pub put_one : (position : ℕ) (event : List Datum) (value : Option ℕ) → 1 ≤ position → RisesFrom 1 (position - 1) event → RisesFrom 1 position (event ++ option_to_list (datum_at position value))
+put_one position event None some rising =
+    subst (RisesFrom 1 position) (sym (append-nil event)) (RisesFrom-wider 1 (position - 1) position event (omega arith) rising)
+put_one position event (Some k) some rising =
+    RisesFrom-push 1 position event (record { position = position; cat = k }) (RisesFrom-wider 1 (position - 1) position event (omega arith) rising) (room position event some rising) (omega arith)
+
+pub put_rises : (g : Gathering) (value : Option ℕ) → 1 ≤ g.position → RisesFrom 1 (g.position - 1) g.event → RisesFrom 1 (g.position + 1 - 1) (after_put g value).event
+put_rises g value some rising =
+    let last : g.position + 1 - 1 ≡ g.position = omega arith in
+    subst (λ n. RisesFrom 1 n (after_put g value).event) (sym last) (put_one g.position g.event value some rising)

@@ -1,4 +1,4 @@
--- The parts of the entry of a node, at its turn.
+-- The sequential log, entry after entry, and the parts of an entry at its turn.
 use Rattle.std.proofs.Common.{◌≡◌, ℕ, ◌+◌, ◌<◌, ◌≤◌, ◌^◌, List, [], ◌∷◌, ◌++◌, length, set, take, Option, Some, None, inl, inr, ap, sym, ◌∙◌, subst, arith}
 use Rattle.std.specs.List.{filter, list_all}
 use Rattle.std.proofs.lemmas.Bool.Decides.{nat_tests}

@@ -1,6 +1,5 @@
 pub mod Cells
 pub mod Covered
-pub mod LogLemmas
 pub mod Short
 pub mod Cover
 pub mod Levels

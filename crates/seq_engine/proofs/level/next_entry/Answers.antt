@@ -2,7 +2,7 @@ use Rattle.std.proofs.Common.{arith, ◌∙◌, ap}
 use Rattle.mp_base.proofs.Tallies.{length-tally, sum-tally-le}
 use Rattle.event_retrieve.specs.Plan.{grid_at}
 use Rattle.event_retrieve.specs.Sequential.{picked}
-use Rattle.seq_engine.proofs.LogLemmas.{length-counts_of, total-few, total-retained, length-grid_at, entry_is}
+use Rattle.event_retrieve.proofs.LogLemmas.{length-counts_of, total-few, total-retained, length-grid_at, entry_is}
 use Rattle.seq_engine.proofs.level.next_entry.Goals as goal
 
 pub pick_with-cat-requires-clause-counts_len : goal.pick_with-cat-requires-clause-counts_len

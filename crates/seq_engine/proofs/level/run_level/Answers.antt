@@ -8,7 +8,7 @@ use Rattle.mp_base.specs.Cells.{category_counts}
 use Rattle.event_retrieve.specs.Plan.{Plan, grid_at}
 use Rattle.event_retrieve.specs.Sequential.{log_of, entry_after}
 use Rattle.event_retrieve.proofs.Logs.{log_of_more, length-log_of}
-use Rattle.seq_engine.proofs.LogLemmas.{grid_at-push, unknown_at_turn, length-grid_at, known_is}
+use Rattle.event_retrieve.proofs.LogLemmas.{grid_at-push, unknown_at_turn, length-grid_at, known_is}
 use Rattle.mp_base.specs.declared.cell.Entry.{Entry}
 use Rattle.std.proofs.lemmas.List.Elements.{All-push}
 use Rattle.seq_engine.proofs.level.run_level.Goals as goal

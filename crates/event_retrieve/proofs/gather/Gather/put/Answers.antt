@@ -1,23 +1,11 @@
-use Rattle.std.proofs.Common.{arith, ◌≡◌, ℕ, ◌+◌, ◌-◌, ◌≤◌, List, ◌++◌, Option, Some, None, option_to_list, subst, sym, ap, ◌∙◌}
-use Rattle.std.proofs.lemmas.List.{append-nil}
+use Rattle.std.proofs.Common.{arith, ◌≡◌, ℕ, ◌+◌, ◌-◌, ◌≤◌, List, ◌++◌, option_to_list, subst, sym, ap, ◌∙◌}
 use Rattle.ti_scan.specs.declared.event.Datum.{Datum}
-use Rattle.ti_scan.specs.Rising.{RisesFrom, next_position}
-use Rattle.ti_scan.proofs.RisingLemmas.{next_from-le, RisesFrom-push, RisesFrom-wider}
+use Rattle.ti_scan.specs.Rising.{RisesFrom}
 use Rattle.event_retrieve.specs.Plan.{datum_at}
 use Rattle.event_retrieve.specs.Gather.{Gathering, LiesBetween, after_put}
 use Rattle.event_retrieve.specs.contracts.gather.Gather.{the_view}
-use Rattle.event_retrieve.proofs.Gathered.{put_between}
+use Rattle.event_retrieve.proofs.Gathered.{put_between, put_one, room}
 use Rattle.event_retrieve.proofs.gather.Gather.put.Goals as goal
-
--- data before a position leave room for one there
-room : (position : ℕ) (event : List Datum) → 1 ≤ position → RisesFrom 1 (position - 1) event → next_position event ≤ position
-room position event some rising = omega (arith, some, next_from-le 1 (position - 1) event (omega arith) rising)
-
-with_one : (position : ℕ) (event : List Datum) (value : Option ℕ) → 1 ≤ position → RisesFrom 1 (position - 1) event → RisesFrom 1 position (event ++ option_to_list (datum_at position value))
-with_one position event None some rising =
-    subst (RisesFrom 1 position) (sym (append-nil event)) (RisesFrom-wider 1 (position - 1) position event (omega arith) rising)
-with_one position event (Some k) some rising =
-    RisesFrom-push 1 position event (record { position = position; cat = k }) (RisesFrom-wider 1 (position - 1) position event (omega arith) rising) (room position event some rising) (omega arith)
 
 pub push_found-requires-clause-after : goal.push_found-requires-clause-after
 push_found-requires-clause-after c = omega (arith, room c.self.inside.position c.self.inside.event c.self.invariant.0 c.self.invariant.2)
@@ -36,7 +24,7 @@ module _ (c : goal.After-self-1) where
       c.push_found.ensures ∙ ap (λ n. was.event ++ option_to_list (datum_at n c.args.value)) here
 
   rises : RisesFrom 1 was.position c.push_found.new.event
-  rises = subst (RisesFrom 1 was.position) (sym event_is) (with_one was.position was.event c.args.value c.self.invariant.0 c.self.invariant.2)
+  rises = subst (RisesFrom 1 was.position) (sym event_is) (put_one was.position was.event c.args.value c.self.invariant.0 c.self.invariant.2)
 
 pub invariant_of-self : goal.invariant_of-self
 invariant_of-self c =
