@@ -42,6 +42,17 @@ fn row(alloc: Global) -> Result<Grid, Fail>
     Ok(image)
 }
 
+// A plan over unknown cells.
+fn plan_of<'a>(alloc: Global, eroded: &'a Eroded<'a>, start: Grid) -> Result<LevelPlan<'a>, Fail>
+    requires cats { eroded.now.cats ≡ 2 }
+    requires nodes { KnowsNodes start 1 }
+    requires below { All (IsBelow 2) start.cells }
+{
+    let target = Target::new(Counts::of(&[5, 3]));
+    let words = Words::new(0, 0);
+    Ok(LevelPlan::new(alloc, 1, eroded, start, words, target, 0, 2, 64)?)
+}
+
 // A story over the path of a plan, with these categories in turn.
 fn story_of(alloc: Global, plan: &LevelPlan<'_>, cats: &[u8]) -> Result<Vec<Entry>, NoMemory>
     requires { 0 < length cats.now }
@@ -144,17 +155,6 @@ fn a_pass_may_find_more_than_it_has_seen(rt: HostRuntime) -> Result<(), Fail> {
     };
     assert_eq!(rt; found, Some(expected));
     Ok(())
-}
-
-// A plan over unknown cells.
-fn plan_of<'a>(alloc: Global, eroded: &'a Eroded<'a>, start: Grid) -> Result<LevelPlan<'a>, Fail>
-    requires cats { eroded.now.cats ≡ 2 }
-    requires nodes { KnowsNodes start 1 }
-    requires below { All (IsBelow 2) start.cells }
-{
-    let target = Target::new(Counts::of(&[5, 3]));
-    let words = Words::new(0, 0);
-    Ok(LevelPlan::new(alloc, 1, eroded, start, words, target, 0, 2, 64)?)
 }
 
 // Publishes the whole story once all watchers have come, or after some turns.
