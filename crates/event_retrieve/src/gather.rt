@@ -1,8 +1,9 @@
 // Gathering the event of a path node.
-ghost use Rattle.std.specs.Prelude.{◌≡◌, ℕ, ◌+◌, ◌-◌, ◌<◌, ◌≤◌, [], length};
+ghost use Rattle.std.specs.Prelude.{◌≡◌, ℕ, ◌+◌, ◌-◌, ◌<◌, ◌≤◌, [], length, true};
 ghost use Rattle.mp_base.specs.Grid.{cells_of};
 ghost use Rattle.ti_scan.specs.Event.{IsEvent, StandsFor};
 ghost use Rattle.event_retrieve.specs.Plan.{Plan};
+ghost use Rattle.event_retrieve.specs.declared.gather.Wanted.TheVariants.{Done};
 ghost use Rattle.event_retrieve.specs.Offer.{IsRetained, IsSound};
 ghost use Rattle.event_retrieve.specs.Gather.{wanted_of, MayPut, IfCell, LiesBetween, MayBeRead, after_put, is_early as early};
 
@@ -65,6 +66,8 @@ impl Gather {
         requires index { self.now.index < length plan.now.path }
         ensures wanted { result ≡ wanted_of plan.now self.now }
         ensures inside { IfCell result (λ c. c < cells_of plan.now.start.sides) }
+        ensures early { IfCell result (λ c. early plan.now self.now.index c ≡ true) }
+        ensures past { result ≡ Done → length plan.now.source.template < self.now.position }
     {
         let position = self.position;
         if position > plan.template_len() {
