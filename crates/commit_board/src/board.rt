@@ -246,7 +246,8 @@ impl Board {
 
     /// The entries so far.
     pub fn log(&self) -> &[Entry]
-        ensures { result.now ≡ self.now.log }
+        ensures log { result.now ≡ self.now.log }
+        ensures board { IsBoard self.now }
     {
         self.log.as_slice()
     }
