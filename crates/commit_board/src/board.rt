@@ -230,11 +230,7 @@ impl Board {
         let front = self.front();
         let event = known_event(plan, front, self.log.as_slice());
         let retained = retain(plan, &event, store);
-        let answer = Retained {
-            len: retained.len,
-            reach: retained.reach,
-            counts: Counts::of(retained.counts.as_slice()),
-        };
+        let answer = retained.copy();
         self.slots[0] = Some(Offer {
             index: front,
             seen: front,

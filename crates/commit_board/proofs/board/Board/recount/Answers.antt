@@ -26,9 +26,9 @@ returns-clause-retained g c =
     let len : c.front-front.result ≡ length c.self.inside.log.items = c.front-front.ensures ∙ ap (λ (b : State). length b.log) (sym c.self.view_is) in
     let event : c.known_event-event.result ≡ known p c.self.inside.log.items (length c.self.inside.log.items) (length c.self.inside.log.items) =
     c.known_event-event.ensures.data_ ∙ ap (λ l. known p l (length l) c.front-front.result) c.as_slice.ensures.value ∙ ap (known p c.self.inside.log.items (length c.self.inside.log.items)) len in
-    let r : Retained = record { len = c.retain-retained.result.len; reach = c.retain-retained.result.reach; counts = c.of.result } in
-    let kept = (recounted p (the_view c.self.inside) c.front-front.result c.known_event-event.result r fits few len event (record { len = c.retain-retained.ensures.len; reach = c.retain-retained.ensures.reach; counts = c.of.ensures ∙ c.as_slice-2.ensures.parts ∙ c.retain-retained.ensures.counts })).0 in
-    subst (λ b. IsRetained p (event_of_turn p (length b.log)) r) c.self.view_is kept
+    let kept = (recounted p (the_view c.self.inside) c.front-front.result c.known_event-event.result c.retain-retained.result fits few len event (record { len = c.retain-retained.ensures.len; reach = c.retain-retained.ensures.reach; counts = c.retain-retained.ensures.counts })).0 in
+    subst (λ r. IsRetained p (event_of_turn p (length c.args.self.now.log)) r) (sym c.copy-answer.ensures)
+    (subst (λ b. IsRetained p (event_of_turn p (length b.log)) c.retain-retained.result) c.self.view_is kept)
 
 pub returns-clause-fits : goal.returns-clause-fits
 returns-clause-fits g c =
