@@ -1,5 +1,5 @@
 // The board of a level.
-ghost use Rattle.std.specs.Prelude.{◌≡◌, ◌+◌, ◌-◌, ◌<◌, ◌≤◌, ◌^◌, [], IfOk, None, length, option_copied, replicate, slice_index};
+ghost use Rattle.std.specs.Prelude.{◌≡◌, ◌+◌, ◌-◌, ◌<◌, ◌≤◌, ◌^◌, [], IfOk, None, length, max, option_copied, replicate, slice_index};
 ghost use Rattle.ti_scan.specs.Event.{StandsFor};
 ghost use Rattle.event_retrieve.specs.Plan.{Plan, IsPlan};
 ghost use Rattle.event_retrieve.specs.Offer.{IsSound, IsRetained, event_of_turn, stale_by};
@@ -14,7 +14,7 @@ use mp_base::{Counts, Entry, NoMemory};
 use std::alloc::Global;
 use std::collections::VecDeque;
 use std::marker::Model;
-use ti_scan::CountStore;
+use ti_scan::{CountStore, Event};
 
 /// How far the path of a level was claimed, the offers that are kept, at most one for each node,
 /// and the log, whose length is the front: the index of the node that is committed next.
@@ -215,7 +215,7 @@ impl Board {
         });
         self.known.add_one(entry.cat);
         self.words.advance();
-        self.next = self.next.max(front + 1);
+        self.next = next_after(self.next, front);
     }
 
     /// Puts an offer that sees all entries in the front's place, and answers what it retains.
@@ -231,12 +231,7 @@ impl Board {
         let event = known_event(plan, front, self.log.as_slice());
         let retained = retain(plan, &event, store);
         let answer = retained.copy();
-        self.slots[0] = Some(Offer {
-            index: front,
-            seen: front,
-            event,
-            retained,
-        });
+        self.slots[0] = Some(offer_at(front, event, retained));
         answer
     }
 
@@ -274,5 +269,25 @@ impl Board {
         ensures { result.items ≡ self.log }
     {
         self.log
+    }
+}
+
+// The first node that isn't claimed once the front is committed: the front may not have been.
+fn next_after(next: u32, front: u32) -> u32
+    requires { front + 1 < 2 ^ 32 }
+    ensures { result ≡ max next (front + 1) }
+{
+    next.max(front + 1)
+}
+
+// The offer of a node by all entries before its own.
+fn offer_at(index: u32, event: Event, retained: Retained) -> Offer
+    ensures { result ≡ record { index = index; seen = index; event = event; retained = retained } }
+{
+    Offer {
+        index,
+        seen: index,
+        event,
+        retained,
     }
 }

@@ -7,6 +7,8 @@ mod claim;
 mod keep;
 mod settle;
 mod shared;
+#[cfg(test)]
+mod tests;
 mod word;
 
 pub use board::Board;

@@ -1,9 +1,9 @@
 use Rattle.std.proofs.Common.{arith, ◌≡◌, ◌<◌, ◌∙◌, ap, sym, subst, length}
-use Rattle.event_retrieve.specs.declared.retrieval.Retained.{Retained}
+use Rattle.event_retrieve.specs.declared.offer.Offer.{Offer}
 use Rattle.event_retrieve.specs.Plan.{IsFront, known}
 use Rattle.event_retrieve.specs.Offer.{IsRetained, event_of_turn}
 use Rattle.event_retrieve.proofs.Logs.{IsFront-log_of}
-use Rattle.commit_board.specs.Board.{State, Fits}
+use Rattle.commit_board.specs.Board.{State, Fits, with_front}
 use Rattle.commit_board.specs.contracts.board.Board.{the_view}
 use Rattle.commit_board.proofs.Committing.{recounted, put_front}
 use Rattle.commit_board.proofs.board.Board.recount.Goals as goal
@@ -16,7 +16,7 @@ known_event-event-requires-clause-front g c =
     subst (IsFront p) (sym (c.as_slice.ensures.value ∙ fits.prefix)) (IsFront-log_of p (length c.self.inside.log.items) (omega (arith, few, fits.whole)))
 
 pub invariant_of-self : goal.invariant_of-self
-invariant_of-self g c = (put_front (the_view c.self.inside) _ c.self.invariant.0 (c.front-front.ensures ∙ ap (λ (b : State). length b.log) (sym c.self.view_is)), c.self.invariant.1)
+invariant_of-self g c = (put_front (the_view c.self.inside) _ c.self.invariant.0 (ap (λ (o : Offer). o.index) c.offer_at.ensures ∙ c.front-front.ensures ∙ ap (λ (b : State). length b.log) (sym c.self.view_is)), c.self.invariant.1)
 
 pub returns-clause-retained : goal.returns-clause-retained
 returns-clause-retained g c =
@@ -38,4 +38,5 @@ returns-clause-fits g c =
     let len : c.front-front.result ≡ length c.self.inside.log.items = c.front-front.ensures ∙ ap (λ (b : State). length b.log) (sym c.self.view_is) in
     let event : c.known_event-event.result ≡ known p c.self.inside.log.items (length c.self.inside.log.items) (length c.self.inside.log.items) =
     c.known_event-event.ensures.data_ ∙ ap (λ l. known p l (length l) c.front-front.result) c.as_slice.ensures.value ∙ ap (known p c.self.inside.log.items (length c.self.inside.log.items)) len in
+    subst (λ (o : Offer). Fits p (with_front (the_view c.self.inside) o)) (sym c.offer_at.ensures)
     (recounted p (the_view c.self.inside) c.front-front.result c.known_event-event.result c.retain-retained.result fits few len event (record { len = c.retain-retained.ensures.len; reach = c.retain-retained.ensures.reach; counts = c.retain-retained.ensures.counts })).1
