@@ -9,5 +9,5 @@ mod worker;
 mod world;
 
 pub use run::run_schedule;
-pub use spec_steps::{Answer, Schedule, Step};
+pub use spec_steps::{Answer, Schedule, ScheduleError, Step, Steps, read_schedule};
 pub use world::World;

@@ -26,6 +26,7 @@ pub enum Worker {
 }
 
 impl Worker {
+    /// Whether it does nothing.
     pub fn is_idle(&self) -> bool
         ensures { result ≡ idle self.now }
     {
