@@ -1,5 +1,5 @@
 -- Categories of the sequential log, and those that answers name, are the plan's.
-use Rattle.std.proofs.Common.{arith, ◌≡◌, ℕ, zero, suc, ◌+◌, ◌-◌, ◌*◌, ◌≤◌, ◌<◌, ◌^◌, Bool, true, false, cond, List, [], ◌∷◌, ◌++◌, length, take, sum, get_or, nat_lt, Option, Some, None, IfSome, All, slice_get, refl, ap, sym, subst, ◌∙◌}
+use Rattle.std.proofs.Common.{arith, ◌≡◌, ℕ, zero, suc, ◌+◌, ◌-◌, ◌*◌, ◌≤◌, ◌<◌, ◌^◌, Bool, true, List, [], ◌∷◌, length, take, sum, get_or, nat_lt, All, ap, sym, ◌∙◌}
 use Rattle.std.proofs.Math.Nat.{mul-le-mul_right, div-lt_iff_lt-mul}
 use Rattle.std.proofs.lemmas.Bool.{false≢true}
 use Rattle.std.proofs.lemmas.Bool.Decides.{nat_tests}
@@ -14,7 +14,7 @@ use Rattle.mp_base.proofs.Tallies.{length-tally}
 use Rattle.path_stream.proofs.Paths.{word_of-below}
 use Rattle.servo_fraction.specs.Weights.{weights_of, weight_of, pick_of, scaled, up_to}
 use Rattle.servo_fraction.proofs.Sums.{weights-some}
-use Rattle.ti_scan.specs.Event.{counts_of, total_of}
+use Rattle.ti_scan.specs.Event.{counts_of}
 use Rattle.event_retrieve.specs.Plan.{Plan, IsPlan, grid_at, known, nodes_in}
 use Rattle.event_retrieve.specs.Retrieval.{retained}
 use Rattle.event_retrieve.specs.Sequential.{log_of, entry_after, draw_word}

@@ -3,7 +3,6 @@ use Rattle.std.proofs.Common.{arith, ◌≡◌, ℕ, ◌+◌, ◌-◌, ◌<◌, 
 use Rattle.std.proofs.lemmas.Bool.Decides.{nat_tests}
 use Rattle.std.proofs.lemmas.List.{length_push}
 use Rattle.ti_scan.specs.declared.event.Datum.{Datum}
-use Rattle.event_retrieve.specs.declared.offer.Missed.{Missed}
 use Rattle.event_retrieve.specs.declared.offer.Offer.{Offer}
 use Rattle.event_retrieve.specs.declared.retrieval.Retained.{Retained}
 use Rattle.event_retrieve.specs.Offer.{IsRetained, event_of_turn, stale_by}

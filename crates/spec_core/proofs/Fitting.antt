@@ -1,18 +1,15 @@
 -- A machine that fits its plan does so after each step.
-use Rattle.std.proofs.Common.{arith, ◌≡◌, ◌⊎◌, ℕ, zero, suc, ◌+◌, ◌-◌, ◌≤◌, ◌<◌, Bool, true, false, cond, List, [], ◌∷◌, ◌++◌, length, max, nat_lt, ◌==◌, replicate, set, Option, Some, None, slice_get, inl, inr, refl, ap, sym, subst, ◌∙◌}
+use Rattle.std.proofs.Common.{arith, ◌≡◌, ◌⊎◌, ℕ, zero, suc, ◌+◌, ◌-◌, ◌≤◌, ◌<◌, Bool, true, false, cond, List, [], ◌∷◌, length, max, nat_lt, ◌==◌, replicate, set, Option, Some, None, slice_get, inl, inr, refl, ap, sym, subst, ◌∙◌}
 use Rattle.std.proofs.lemmas.Bool.{false≢true}
 use Rattle.std.proofs.lemmas.Bool.Decides.{nat_tests}
 use Rattle.std.proofs.lemmas.List.{length_push}
-use Rattle.mp_base.specs.declared.cell.Entry.{Entry}
-use Rattle.mp_base.specs.Grid.{cat_of}
 use Rattle.ti_scan.specs.Event.{IsEvent}
 use Rattle.event_retrieve.specs.declared.gather.Wanted.{Wanted}
 use Rattle.event_retrieve.specs.declared.gather.Wanted.TheVariants.{Done, Outside, Later, Cell}
 use Rattle.event_retrieve.specs.declared.offer.Offer.{Offer}
-use Rattle.event_retrieve.specs.declared.offer.Missed.{Missed}
-use Rattle.event_retrieve.specs.Gather.{Gathering, IfCell, LiesBetween, MayBeRead, MayPut, after_put, is_early, wanted_at, wanted_of}
+use Rattle.event_retrieve.specs.Gather.{Gathering, IfCell, MayBeRead, MayPut, after_put, is_early, wanted_at, wanted_of}
 use Rattle.event_retrieve.specs.Offer.{IsSound}
-use Rattle.event_retrieve.specs.Plan.{Plan, IsPlan, cell_at_position, grid_at, nodes_in}
+use Rattle.event_retrieve.specs.Plan.{Plan, IsPlan, cell_at_position, nodes_in}
 use Rattle.event_retrieve.proofs.Gathered.{between_all, empty_between, may_not_done, put_between, put_rises}
 use Rattle.commit_board.specs.Board.{State, Fits, IsBoard, after_claim, after_keep, after_settle, claim_of, front, front_offer, keep_of, settle_of, with_front}
 use Rattle.commit_board.specs.declared.claim.Claim.{Claim}
@@ -28,7 +25,7 @@ use Rattle.spec_steps.specs.declared.step.Step.TheVariants as step
 use Rattle.spec_core.specs.declared.worker.Worker.{Worker}
 use Rattle.spec_core.specs.declared.worker.Worker.TheVariants.{Idle, Claimed, Looking, Counted}
 use Rattle.spec_core.specs.Worker.{after_count, after_front, after_look, cat_by, claimed_by, gathered, gathering_at, is_done, offer_of, worker_offered}
-use Rattle.spec_core.specs.World.{Machine, FitsCounted, FitsLooking, FitsPlan, FitsWorker, after, after_both, after_own, board_claimed, board_offered, is_shown, may_force, recounted, with_board, with_worker, worker_claimed, worker_of}
+use Rattle.spec_core.specs.World.{Machine, FitsLooking, FitsPlan, FitsWorker, after, after_both, after_own, board_claimed, board_offered, is_shown, may_force, recounted, with_board, with_worker, worker_claimed, worker_of}
 
 -- each worker fits
 abbrev AllFit : Plan → ℕ → ℕ → List Worker → Type 0

@@ -1,5 +1,5 @@
 -- What a step is answered names categories of the plan alone.
-use Rattle.std.proofs.Common.{◌≡◌, ℕ, ◌+◌, ◌<◌, Bool, true, false, cond, List, [], ◌∷◌, ◌++◌, length, nat_lt, take, Option, Some, None, IfSome, All, refl, sym, subst}
+use Rattle.std.proofs.Common.{◌≡◌, ℕ, ◌<◌, Bool, true, false, cond, List, [], ◌∷◌, ◌++◌, length, nat_lt, take, Option, Some, None, All, refl, sym, subst}
 use Rattle.std.proofs.lemmas.List.Elements.{All-pop, All-take}
 use Rattle.mp_base.specs.declared.cell.Entry.{Entry}
 use Rattle.mp_base.specs.Grid.{IsBelow}
@@ -20,7 +20,7 @@ use Rattle.spec_steps.specs.declared.step.Step.TheVariants as step
 use Rattle.spec_core.specs.declared.worker.Worker.{Worker}
 use Rattle.spec_core.specs.declared.worker.Worker.TheVariants.{Idle, Claimed, Looking, Counted}
 use Rattle.spec_core.specs.Worker.{cat_by, count_answer, front_answer, is_done, look_answer, look_at, read_answer, retained_of}
-use Rattle.spec_core.specs.World.{Machine, FitsPlan, after, answer_by, answer_of, claim_answer, is_shown, may_force, offer_answer, recounted, with_board, worker_of}
+use Rattle.spec_core.specs.World.{Machine, after, answer_by, answer_of, claim_answer, is_shown, may_force, offer_answer, recounted, with_board, worker_of}
 use Rattle.spec_core.proofs.Below.{log_below}
 
 -- an answer that names nothing, or is skipped

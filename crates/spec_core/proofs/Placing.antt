@@ -1,5 +1,5 @@
 -- The worker of a number, by the place where it stands.
-use Rattle.std.proofs.Common.{arith, ◌≡◌, ℕ, suc, ◌<◌, ◌≤◌, List, length, get_or, set, slice_get, Option, Some, IfSome, refl, ap, sym, ◌∙◌}
+use Rattle.std.proofs.Common.{arith, ◌≡◌, ℕ, suc, ◌<◌, ◌≤◌, length, get_or, set, slice_get, Some, IfSome, refl, ap, sym, ◌∙◌}
 use Rattle.std.proofs.lemmas.Option.{slice_get_read}
 use Rattle.event_retrieve.specs.Offer.{IsSound}
 use Rattle.event_retrieve.specs.Plan.{Plan, nodes_in}

@@ -1,8 +1,6 @@
 -- Runs, one step after another.
-use Rattle.std.proofs.Common.{◌≡◌, ℕ, zero, suc, ◌+◌, ◌<◌, List, [], ◌∷◌, ◌++◌, length, take, get_or, refl, ap, sym, ◌∙◌, arith}
-use Rattle.std.proofs.lemmas.List.{take_more, take_all}
+use Rattle.std.proofs.Common.{◌≡◌, List, [], ◌∷◌, ◌++◌, refl, ap}
 use Rattle.event_retrieve.specs.Plan.{Plan}
-use Rattle.spec_steps.specs.declared.answer.Answer.{Answer}
 use Rattle.spec_steps.specs.declared.step.Step.{Step}
 use Rattle.spec_core.specs.Run.{after_all, answers_of}
 use Rattle.spec_core.specs.World.{Machine, after, answer_of}

@@ -1,5 +1,5 @@
 -- What one worker does, and how a step of its own changes that.
-use Rattle.std.specs.Prelude.{⊤, ◌≡◌, ℕ, ◌+◌, ◌≤◌, ◌<◌, nat_lt, Bool, true, false, if◌then◌else◌, List, [], length, Option, Some, None}
+use Rattle.std.specs.Prelude.{⊤, ℕ, ◌+◌, ◌≤◌, ◌<◌, nat_lt, Bool, true, false, if◌then◌else◌, List, [], length, Option, Some, None}
 use Rattle.mp_base.specs.declared.cell.Entry.{Entry}
 use Rattle.mp_base.specs.Grid.{cat_of}
 use Rattle.ti_scan.specs.declared.event.Datum.{Datum}
@@ -8,8 +8,7 @@ use Rattle.event_retrieve.specs.declared.gather.Wanted.{Wanted}
 use Rattle.event_retrieve.specs.declared.gather.Wanted.TheVariants.{Done, Outside, Later, Cell}
 use Rattle.event_retrieve.specs.declared.offer.Offer.{Offer}
 use Rattle.event_retrieve.specs.declared.retrieval.Retained.{Retained}
-use Rattle.event_retrieve.specs.Gather.{Gathering, LiesBetween, after_put, wanted_of}
-use Rattle.event_retrieve.specs.Offer.{IsSound}
+use Rattle.event_retrieve.specs.Gather.{Gathering, after_put, wanted_of}
 use Rattle.event_retrieve.specs.Plan.{Plan, grid_at, nodes_in}
 use Rattle.event_retrieve.specs.Retrieval.{cut, kept_len, reach, retained}
 use Rattle.commit_board.specs.declared.claim.Claim.{Claim}

@@ -220,6 +220,13 @@ impl World {
         self.board.log()
     }
 
+    /// How many entries there are so far.
+    pub fn front(&self) -> u32
+        ensures { result ≡ length self.now.board.log }
+    {
+        self.board.front()
+    }
+
     /// Commits what is left, each node by counting it again: the sequential log, whatever steps were
     /// taken before.
     pub fn finish<S: CountStore>(self, plan: &LevelPlan<'_>, store: &S) -> Vec<Entry>

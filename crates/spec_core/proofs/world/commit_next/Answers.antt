@@ -1,5 +1,5 @@
 use Rattle.std.proofs.Common.{ap, length, ◌∙◌}
-use Rattle.commit_board.specs.Board.{State, after_settle, front_offer, settle_of, with_front}
+use Rattle.commit_board.specs.Board.{State, after_settle, settle_of}
 use Rattle.spec_core.proofs.Finishing.{committed_again}
 use Rattle.spec_core.proofs.world.commit_next.Goals as goal
 

@@ -1,4 +1,4 @@
-use Rattle.std.proofs.Common.{◌≡◌, ◌∙◌, ◌<◌, List, All, length, subst, sym}
+use Rattle.std.proofs.Common.{◌∙◌, ◌<◌, List, All, length, subst, sym}
 use Rattle.mp_base.specs.declared.cell.Entry.{Entry}
 use Rattle.spec_core.proofs.Below.{log_below}
 use Rattle.spec_core.proofs.world.World.finish.Goals as goal

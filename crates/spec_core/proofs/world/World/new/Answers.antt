@@ -1,5 +1,4 @@
-use Rattle.std.proofs.Common.{arith, ◌≡◌, length, ap, sym, ◌∙◌, slice_get, Some}
-use Rattle.spec_core.specs.declared.worker.Worker.{Worker}
+use Rattle.std.proofs.Common.{arith, length, ap, sym, ◌∙◌, slice_get}
 use Rattle.spec_core.proofs.Fitting.{idle_fits}
 use Rattle.spec_core.proofs.world.World.new.Goals as goal
 
