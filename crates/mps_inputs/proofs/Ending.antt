@@ -1,15 +1,15 @@
 -- What an answer leaves, by what a stage of the command left.
 use Rattle.std.proofs.Common.{◌≡◌, ◌⊎◌, inl, inr, refl, sym, ◌∙◌, ap, subst, ℕ, List, ◌++◌, take, Option, Some, None, Result, Ok, Err}
 use Rattle.std.specs.Prelude.{IsTrue, IsOk, IsOkAnd}
-use Rattle.mp_outside.specs.Causes.{Rose, SameCounts}
+use Rattle.mp_outside.specs.Causes.{NoneFell, Rose, SameCounts}
 use Rattle.mp_outside.specs.Contents.{Held, SameHeld}
-use Rattle.mps_inputs.specs.Answers.{Causes, Ends, Finishes, HoldsFront, HoldsText, IsFront, IsPart, IsInputFault, IsRefusal, IsWhole, LeavesFiles, LeavesOut, OfOutput, Serves, WritesTo, seen}
+use Rattle.mps_inputs.specs.Answers.{Causes, Ends, Finishes, HoldsFront, HoldsText, IsFront, IsPart, IsInputFault, IsRefusal, IsUsage, IsWhole, LeavesFiles, LeavesOut, OfOutput, Serves, WritesTo, seen}
 use Rattle.mp_text.specs.Chain.{◌>>=◌}
 use Rattle.mps_inputs.specs.Done.{Done, Output}
 use Rattle.mp_outside.specs.Seen.{FilesSeen, SinkSeen}
 use Rattle.mps_inputs.specs.declared.fault.Fault.{Fault}
 use Rattle.mps_inputs.specs.declared.fault.Fault.TheVariants.{Usage, CannotRead, CannotWrite, OutOfMemory, CannotReport}
-use Rattle.mps_inputs.proofs.Reading.{first_refused}
+use Rattle.mps_inputs.proofs.Reading.{IsStage, first_refused, second_refused}
 
 -- a refusal of work that has touched nothing
 pub refused_ends : (outcome : Result Done Fault) (fault : Fault) (files : FilesSeen) (out : SinkSeen) → IsRefusal outcome fault → Ends outcome (seen files out) (seen files out) (Err fault)
@@ -19,6 +19,15 @@ refused_ends outcome (CannotWrite name) files out is = absurd is
 refused_ends outcome CannotReport files out is = absurd is
 refused_ends outcome OutOfMemory files out is = record { cause = is; files = λ told. inl (λ name. refl); out = λ told. inl refl }
 refused_ends outcome fault files out is = record { cause = is; files = λ told name. refl; out = λ told. refl }
+
+-- the same whatever the files hold
+pub refused_serves : (outcome : Held → Result Done Fault) (fault : Fault) (files : FilesSeen) (out : SinkSeen) → ((held : Held) → IsRefusal (outcome held) fault) → Serves outcome (seen files out) (seen files out) (Err fault)
+refused_serves outcome Usage files out is = absurd (is files.held)
+refused_serves outcome (CannotRead name) files out is = absurd (is files.held)
+refused_serves outcome (CannotWrite name) files out is = absurd (is files.held)
+refused_serves outcome CannotReport files out is = absurd (is files.held)
+refused_serves outcome OutOfMemory files out is = record { cause = tt; files = λ told. inl (λ name. refl); out = λ told. inl refl }
+refused_serves outcome fault files out is = record { cause = λ told. is files.held; files = λ told name. refl; out = λ told. refl }
 
 -- The same files before.
 
@@ -124,3 +133,34 @@ module _ {A : Type 0} (first : Held → Result A Fault) (second : A → Held →
   stage_refused OutOfMemory is same = record { cause = is; files = λ told. inl same; out = λ told. inl refl }
   stage_refused (CannotRead name) is same = record { cause = first_refused first second before mid mid (CannotRead name) is; files = λ told. same; out = λ told. refl }
   stage_refused fault is same = record { cause = first_refused first second before mid mid fault is; files = λ told. same; out = λ told. refl }
+
+-- A stage that was accepted, and then an answer.
+
+module _ {A : Type 0} (first : Held → Result A Fault) (second : A → Held → Result Done Fault) (before mid now : FilesSeen) (out_before out_now : SinkSeen) where
+  abbrev both : Held → Result Done Fault
+  both held = first held >>= λ a. second a held
+
+  module _ (a : A) (accepted : IsTrue before.tells → first before.held ≡ Ok a) (tells : mid.tells ≡ before.tells) (held : SameHeld before.held mid.held) (later : NoneFell before.reads mid.reads) (writes : SameCounts before.writes mid.writes) (stage : IsStage first) (usage : IsUsage (second a) mid → (held : Held) × (both held ≡ Err Usage)) where
+    told_behind : IsTrue before.tells → IsTrue mid.tells
+    told_behind told = subst IsTrue (sym tells) told
+
+    is_second : IsTrue before.tells → both before.held ≡ second a mid.held
+    is_second told = ap (λ (r : Result A Fault). r >>= λ a. second a before.held) (accepted told) ∙ ap (second a) (λ i name. sym (held name) i)
+
+    cause_after : (answer : Result (Unit {0}) Fault) → Causes (second a) (seen mid out_before) (seen now out_now) answer → Causes both (seen before out_before) (seen now out_now) answer
+    cause_after (Ok done) is = λ told. subst (λ (o : Result Done Fault). IsOk o) (sym (is_second told)) (is (told_behind told))
+    cause_after (Err Usage) is = (usage is, λ told. is_second told ∙ is.1 (told_behind told))
+    cause_after (Err (CannotRead name)) is = second_refused first second before mid now a accepted tells held stage later (CannotRead name) is
+    cause_after (Err (CannotWrite name)) is =
+        (subst (λ count. Rose count (now.writes name)) (writes name) is.0, λ told. subst (λ (o : Result Done Fault). IsOkAnd o (WritesTo name)) (sym (is_second told)) (is.1 (told_behind told)))
+    cause_after (Err CannotReport) is = (is.0, λ told. subst (λ (o : Result Done Fault). IsOk o) (sym (is_second told)) (is.1 (told_behind told)))
+    cause_after (Err OutOfMemory) is = is
+    cause_after (Err fault) is = λ told. is_second told ∙ is (told_behind told)
+
+    pub served_after : (answer : Result (Unit {0}) Fault) → Serves (second a) (seen mid out_before) (seen now out_now) answer → Serves both (seen before out_before) (seen now out_now) answer
+    served_after answer serves =
+        record {
+          cause = cause_after answer serves.cause;
+          files = λ told. files_from before.held mid.held now.held (both before.held) answer held (subst (λ (o : Result Done Fault). LeavesFiles o mid.held now.held answer) (sym (is_second told)) (serves.files (told_behind told)));
+          out = λ told_out. out_from (IsTrue before.tells) (both before.held) (second a mid.held) out_before.written out_now.written answer is_second (subst (λ tells. LeavesOut (IsTrue tells) (second a mid.held) out_before.written out_now.written answer) tells (serves.out told_out));
+        }

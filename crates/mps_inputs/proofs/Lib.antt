@@ -7,3 +7,4 @@ pub mod Images
 pub mod Points
 pub mod Stages
 pub mod Told
+pub mod NoUsage

@@ -17,7 +17,7 @@ use Rattle.mp_params.specs.declared.fault.ParamsFault.TheVariants.{TooLong}
 use Rattle.mps_inputs.specs.Answers.{IsInputFault, IsRefusal}
 use Rattle.mp_text.specs.Chain.{◌>>=◌}
 use Rattle.mps_inputs.specs.Files.{IsReadFault}
-use Rattle.mps_inputs.specs.Inputs.{codes_in, if_built, image_in, image_with, judged, parameters_in, points_in, points_with, read_as, wanted_image, wanted_points}
+use Rattle.mps_inputs.specs.Inputs.{codes_in, if_built, image_in, image_with, inputs_of, inputs_with, judged, no_points, parameters_in, points_in, points_of, points_with, read_as, tables_of, wanted_image, wanted_points, with_points}
 use Rattle.mp_outside.specs.Seen.{FilesSeen, OnlyReads, without}
 use Rattle.mps_inputs.specs.declared.fault.Fault.{Fault}
 use Rattle.mps_inputs.specs.declared.fault.Fault.TheVariants.{Usage, Parameters, CannotRead, CannotWrite, Image, Points, OutOfMemory, CannotReport}
@@ -118,6 +118,41 @@ one_file {A} made name held other = by_name (bytes_eq name other) refl
     by_name : (b : Bool) → bytes_eq name other ≡ b → (read_as made name (without held other) ≡ read_as made name held) ⊎ (read_as made name (without held other) ≡ Err (CannotRead other))
     by_name true same = inr (ap at same ∙ ap (λ (n : List ℕ). Err (CannotRead n)) ((bytes_eq-Decides name other).0 same))
     by_name false apart = inl (ap at apart)
+
+pub no_file : {A : Type 0} (answer : Result A Fault) → IsStage (λ held. answer)
+no_file answer held other = inl refl
+
+-- two stages together are one
+pub both_stages : {A B : Type 0} (first : Held → Result A Fault) (second : A → Held → Result B Fault) → IsStage first → ((a : A) → IsStage (second a)) → IsStage (λ held. first held >>= λ a. second a held)
+both_stages {A} {B} first second one two held other = either (one held other)
+  where
+    next : Held → Result A Fault → Result B Fault
+    next h r = r >>= λ a. second a h
+
+    behind : (r : Result A Fault) → (next (without held other) r ≡ next held r) ⊎ (next (without held other) r ≡ Err (CannotRead other))
+    behind (Ok a) = two a held other
+    behind (Err fault) = inl refl
+
+    at : (first (without held other) ≡ first held) → (next (without held other) (first held) ≡ next held (first held)) ⊎ (next (without held other) (first held) ≡ Err (CannotRead other)) → (next (without held other) (first (without held other)) ≡ next held (first held)) ⊎ (next (without held other) (first (without held other)) ≡ Err (CannotRead other))
+    at same (inl as_before) = inl (ap (next (without held other)) same ∙ as_before)
+    at same (inr unread) = inr (ap (next (without held other)) same ∙ unread)
+
+    either : (first (without held other) ≡ first held) ⊎ (first (without held other) ≡ Err (CannotRead other)) → (next (without held other) (first (without held other)) ≡ next held (first held)) ⊎ (next (without held other) (first (without held other)) ≡ Err (CannotRead other))
+    either (inl same) = at same (behind (first held))
+    either (inr unread) = inr (ap (next (without held other)) unread)
+
+points_stage : (p : ParamsValue) (name : Option (List ℕ)) → IsStage (points_of p name)
+points_stage p None = no_file (Ok (no_points p))
+points_stage p (Some name) = one_file (points_in p) name
+
+tables_stage : (p : ParamsValue) → IsStage (tables_of p)
+tables_stage p =
+    both_stages (read_as (image_in p) p.image) (inputs_with p) (one_file (image_in p) p.image)
+    (λ image. both_stages (points_of p p.points) (λ points held. with_points p image points) (points_stage p p.points) (λ points. no_file (with_points p image points)))
+
+-- all inputs of a command are one stage
+pub inputs_stage : (name : List ℕ) → IsStage (inputs_of name)
+inputs_stage name = both_stages (read_as parameters_in name) tables_of (one_file parameters_in name) tables_stage
 
 module _ {A B : Type 0} (first : Held → Result A Fault) (second : A → Held → Result B Fault) (before mid now : FilesSeen) where
   abbrev both : Held → Result B Fault

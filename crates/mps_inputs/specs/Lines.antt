@@ -7,7 +7,9 @@ use Rattle.mp_params.specs.declared.fault.ParamsFault.{ParamsFault}
 use Rattle.mp_params.specs.declared.fault.ParamsFault.TheVariants as parameters
 use Rattle.mp_params.specs.Table.{key_name}
 use Rattle.mps_inputs.specs.declared.fault.Fault.{Fault}
-use Rattle.mps_inputs.specs.declared.fault.Fault.TheVariants.{Usage, Parameters, NotBuilt, CannotRead, CannotWrite, Image, Points, TooFewPositions, OutOfMemory, CannotReport}
+use Rattle.mps_inputs.specs.declared.fault.Fault.TheVariants.{Usage, Parameters, NotBuilt, CannotRead, CannotWrite, Image, Points, TooFewPositions, OutOfMemory, CannotReport, Schedule}
+use Rattle.mps_inputs.specs.declared.fault.ScheduleFault.{ScheduleFault}
+use Rattle.mps_inputs.specs.declared.fault.ScheduleFault.TheVariants as schedule
 
 -- a reason that names a line
 abbrev pub at_line : ℕ → List ℕ → List ℕ
@@ -34,6 +36,10 @@ table_reason (table.TooFewRows line) = at_line line (codes "too few rows")
 table_reason (table.TooManyRows line) = at_line line (codes "too many rows")
 table_reason (table.TooLong line) = at_line line (codes "too long")
 
+abbrev pub schedule_reason : ScheduleFault → List ℕ
+schedule_reason (schedule.BadLine line) = codes "line " ++ decimal line
+schedule_reason schedule.TooLong = codes "file too long"
+
 abbrev pub reason_of : Fault → List ℕ
 reason_of Usage = codes "usage: run PARAMS [--workers N] | check PARAMS | scan PARAMS LEVEL EVENT | replay PARAMS SCHEDULE | demo N [--list]"
 reason_of (Parameters fault) = codes "parameters: " ++ parameters_reason fault
@@ -46,6 +52,7 @@ reason_of (TooFewPositions level have want) =
     codes "too few positions at level " ++ (decimal level ++ (codes ": have " ++ (decimal have ++ (codes ", want " ++ decimal want))))
 reason_of OutOfMemory = codes "out of memory"
 reason_of CannotReport = codes "cannot write the report"
+reason_of (Schedule fault) = codes "schedule: " ++ schedule_reason fault
 
 abbrev pub line_of : Fault → List ℕ
 line_of fault = codes "mpsim: " ++ (reason_of fault ++ codes "\n")

@@ -1,7 +1,7 @@
 -- The exit status of an answer.
 use Rattle.std.specs.Prelude.{ℕ, Result, Ok, Err}
 use Rattle.mps_inputs.specs.declared.fault.Fault.{Fault}
-use Rattle.mps_inputs.specs.declared.fault.Fault.TheVariants.{Usage, Parameters, NotBuilt, CannotRead, CannotWrite, Image, Points, TooFewPositions, OutOfMemory, CannotReport}
+use Rattle.mps_inputs.specs.declared.fault.Fault.TheVariants.{Usage, Parameters, NotBuilt, CannotRead, CannotWrite, Image, Points, TooFewPositions, OutOfMemory, CannotReport, Schedule}
 
 abbrev pub status_of_fault : Fault → ℕ
 status_of_fault Usage = 1
@@ -14,6 +14,7 @@ status_of_fault (Points fault) = 6
 status_of_fault (TooFewPositions level have want) = 7
 status_of_fault OutOfMemory = 8
 status_of_fault CannotReport = 9
+status_of_fault (Schedule fault) = 10
 
 abbrev pub status_of : {A : Type 0} → Result A Fault → ℕ
 status_of (Ok _) = 0

@@ -56,6 +56,15 @@ pub enum Part {
     Parameters,
 }
 
+/// What is wrong with a schedule file.
+#[derive(Clone, Copy, Debug, PartialEq, Eq)]
+pub enum ScheduleFault {
+    /// The first line that doesn't fit, counted from 1.
+    BadLine { line: u32 },
+    /// The file has more than 4,194,304 bytes.
+    TooLong,
+}
+
 /// Why a command was refused or broke off. Each has its status and its line on standard error.
 #[derive(Drop)]
 pub enum Fault {
@@ -79,4 +88,6 @@ pub enum Fault {
     OutOfMemory,
     /// The text for `out` couldn't be written.
     CannotReport,
+    /// The schedule isn't accepted.
+    Schedule(ScheduleFault),
 }

@@ -12,7 +12,7 @@ mod line;
 mod setup;
 mod statuses;
 
-pub use fault::{Fault, Name, Part};
+pub use fault::{Fault, Name, Part, ScheduleFault};
 pub use files::{append_output, create_output, read_file, report};
 pub use inputs::{Inputs, codes_of, read_inputs, read_parameters, read_tables};
 pub use judging::{Judged, judge};

@@ -3,7 +3,7 @@ ghost use Rattle.std.specs.Prelude.{◌≡◌, ◌++◌, ◌≤◌, codes, lengt
 ghost use Rattle.std.specs.Fmt.{decimal};
 ghost use Rattle.mps_inputs.specs.Lines.{at_line, line_of, parameters_reason, table_reason};
 
-use crate::fault::Fault;
+use crate::fault::{Fault, ScheduleFault};
 use arrayvec::ArrayString;
 use gslib_grid::TableFault;
 use itoa::Buffer;
@@ -27,6 +27,7 @@ pub fn fault_line(fault: &Fault) -> ArrayString<512>
         Fault::TooFewPositions { level, have, want } => line_of_count(*level, *have, *want),
         Fault::OutOfMemory => line_with("out of memory", ""),
         Fault::CannotReport => line_with("cannot write the report", ""),
+        Fault::Schedule(fault) => schedule_line(fault),
     }
 }
 
@@ -70,6 +71,17 @@ fn table_line(file: &str, fault: &TableFault) -> ArrayString<512>
         TableFault::TooFewRows { line } => line_at(file, *line, "too few rows"),
         TableFault::TooManyRows { line } => line_at(file, *line, "too many rows"),
         TableFault::TooLong { line } => line_at(file, *line, "too long"),
+    }
+}
+
+fn schedule_line(fault: &ScheduleFault) -> ArrayString<512>
+    ensures { result.bytes ≡ line_of (Fault.Schedule fault.now) }
+{
+    match fault {
+        ScheduleFault::BadLine { line } => {
+            line_with("schedule: line ", Buffer::new().format(*line))
+        }
+        ScheduleFault::TooLong => line_with("schedule: ", "file too long"),
     }
 }
 

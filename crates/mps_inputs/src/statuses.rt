@@ -29,5 +29,6 @@ pub fn fault_status(fault: &Fault) -> u8
         Fault::TooFewPositions { .. } => 7,
         Fault::OutOfMemory => 8,
         Fault::CannotReport => 9,
+        Fault::Schedule(_) => 10,
     }
 }

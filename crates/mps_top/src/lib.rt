@@ -10,4 +10,4 @@ mod texts;
 mod words;
 
 pub use answer::{answer_alone, answer_in_memory, refuse};
-pub use mps_inputs::{Fault, Name, Part, fault_line};
+pub use mps_inputs::{Fault, Name, Part, ScheduleFault, fault_line};

@@ -1,12 +1,12 @@
 use Rattle.mps_scan.specs.Outcome.{scan_done}
 use Rattle.mps_inputs.specs.Setup.{positions_of, setup_for}
-use Rattle.mps_inputs.proofs.Stages.{refused_next}
+use Rattle.mps_inputs.proofs.Stages.{enough_positions, levels_same, refused_next}
 use Rattle.std.specs.Prelude.{List, ℕ}
 use Rattle.std.proofs.lemmas.Result.{err_from_is_err_and}
 use Rattle.std.proofs.Common.{◌≡◌, ap, sym, ◌∙◌, subst, length, arith}
 use Rattle.seq_engine.specs.declared.setup.Setup.{Setup}
 use Rattle.ti_scan.specs.Event.{IsEvent}
-use Rattle.mps_scan.proofs.Scanning.{enough_positions, levels_same, template_same}
+use Rattle.mps_scan.proofs.Scanning.{template_same}
 use Rattle.mps_scan.proofs.command.event_text.Goals as goal
 
 pub level_text-requires-clause-enough : goal.level_text-requires-clause-enough

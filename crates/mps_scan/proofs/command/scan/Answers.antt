@@ -1,9 +1,9 @@
-use Rattle.mps_inputs.proofs.Ending.{stage_refused}
+use Rattle.mps_inputs.proofs.Ending.{served_after, stage_refused}
 use Rattle.std.proofs.lemmas.Result.{err_from_is_err_and}
 use Rattle.mps_inputs.specs.Inputs.{parameters_in, read_as}
 use Rattle.mps_scan.specs.Outcome.{scan_under}
 use Rattle.mps_inputs.proofs.Reading.{one_file}
-use Rattle.mps_scan.proofs.Scanning.{refused_somewhere, served_after}
+use Rattle.mps_scan.proofs.Scanning.{refused_somewhere}
 use Rattle.mps_scan.proofs.command.scan.Goals as goal
 
 pub returns : goal.returns
