@@ -1,0 +1,4 @@
+-- The promise.
+pub mod Worker
+pub mod World
+pub mod Run

@@ -1,0 +1,3 @@
+-- The promise.
+pub mod Answers
+pub mod Trace
