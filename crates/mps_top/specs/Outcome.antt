@@ -8,12 +8,13 @@ use Rattle.mps_inputs.specs.Setup.{positions_of, setup_for}
 use Rattle.mps_inputs.specs.declared.fault.Fault.{Fault}
 use Rattle.mps_inputs.specs.declared.fault.Fault.TheVariants.{Usage}
 use Rattle.mps_inputs.specs.declared.inputs.Inputs.{Inputs}
+use Rattle.mps_replay.specs.Outcome.{replay_outcome}
 use Rattle.mps_run.specs.Outcome.{run_of}
 use Rattle.mps_scan.specs.Outcome.{scan_outcome}
 use Rattle.mps_top.specs.Texts.{check_text}
 use Rattle.mps_top.specs.Words.{command_of}
 use Rattle.mps_top.specs.declared.words.Command.{Command}
-use Rattle.mps_top.specs.declared.words.Command.TheVariants.{Run, Check, Scan}
+use Rattle.mps_top.specs.declared.words.Command.TheVariants.{Run, Check, Scan, Replay}
 
 abbrev pub check_done : Inputs → List ℕ → Result Done Fault
 check_done inputs positions = Ok (record { output = None; out = check_text inputs positions })
@@ -29,6 +30,7 @@ abbrev pub outcome_for : Command → Held → Result Done Fault
 outcome_for (Run name) held = inputs_of name held >>= run_of
 outcome_for (Check name) held = inputs_of name held >>= check_of
 outcome_for (Scan name words) held = scan_outcome name words held
+outcome_for (Replay name schedule) held = replay_outcome name schedule held
 
 -- the outcome of any words
 abbrev pub outcome_of : List (List ℕ) → Held → Result Done Fault

@@ -6,7 +6,7 @@ use Rattle.std.specs.declared.alloc.Global.{Global}
 use Rattle.multigrid.specs.Levels.{IsLevel}
 use Rattle.mps_scan.specs.Words.{scan_words}
 use Rattle.mps_top.specs.declared.words.Command.{Command}
-use Rattle.mps_top.specs.declared.words.Command.TheVariants.{Run, Check, Scan}
+use Rattle.mps_top.specs.declared.words.Command.TheVariants.{Run, Check, Scan, Replay}
 
 -- the bytes of each word
 abbrev pub texts : List (String Global) → List (List ℕ)
@@ -35,9 +35,14 @@ command_over verb name = if bytes_eq verb (codes "run") then Some (Run name) els
 abbrev pub scan_over : List ℕ → List ℕ → List ℕ → List ℕ → Option Command
 scan_over verb name level event = if bytes_eq verb (codes "scan") then option_map (Scan name) (scan_words level event) else None
 
+-- the command of a first word that takes a parameter file and a schedule
+abbrev pub replay_over : List ℕ → List ℕ → List ℕ → Option Command
+replay_over verb name schedule = if bytes_eq verb (codes "replay") then Some (Replay name schedule) else None
+
 -- the command that the words are, if they are one
 unfoldable pub command_of : List (List ℕ) → Option Command
 command_of (verb ∷ name ∷ []) = if is_file name then command_over verb name else None
+command_of (verb ∷ name ∷ schedule ∷ []) = if is_file name && is_file schedule then replay_over verb name schedule else None
 command_of (verb ∷ name ∷ level ∷ event ∷ []) = if is_file name then scan_over verb name level event else None
 command_of _ = None
 
@@ -46,3 +51,4 @@ abbrev pub HasLevel : Command → Type 0
 HasLevel (Run name) = ⊤
 HasLevel (Check name) = ⊤
 HasLevel (Scan name words) = IsLevel words.level
+HasLevel (Replay name schedule) = ⊤

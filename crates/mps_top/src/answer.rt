@@ -14,6 +14,7 @@ use crate::check::check;
 use crate::words::{Command, command_of};
 use mp_outside::{Files, NoFaultFiles, NoFaultSink, Sink};
 use mps_inputs::{Fault, Inputs, Name, fault_line, fault_status, judge, read_inputs, status};
+use mps_replay::replay;
 use mps_run::write_run;
 use mps_scan::scan;
 use seq_engine::{OneThread, StoreKind};
@@ -95,6 +96,10 @@ fn serve_command<R: Threads, F: Files, O: Sink>(
         Command::Run { parameters } => run(rt, alloc, files, out, parameters),
         Command::Check { parameters } => check(alloc, files, out, parameters),
         Command::Scan { parameters, words } => scan(alloc, files, out, parameters, words),
+        Command::Replay {
+            parameters,
+            schedule,
+        } => replay(rt, alloc, files, out, parameters, schedule),
     }
 }
 

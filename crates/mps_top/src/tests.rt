@@ -421,3 +421,58 @@ fn words_of_a_scan_are_refused_before_the_image(rt: HostRuntime) -> Result<(), F
     assert_eq!(rt; ended.status, 7);
     Ok(())
 }
+
+const FOUR_AT_ONCE: &str =
+    "schedule 1\nrealisation 0 level 1 workers 4\nclaim 1\nfront 1\nlook 1\nlook 1\ncount 1\noffer 1\nclaim 2\nfront 2\nlook 2\nlook 2\ncount 2\noffer 2\nclaim 3\nfront 3\nlook 3\nlook 3\ncount 3\noffer 3\nclaim 4\nfront 4\nlook 4\nlook 4\ncount 4\noffer 4\nsettle\nsettle\nshow\nsettle\nshow\nsettle\nforce\nsettle\nshow\nsettle\nforce\nsettle\nshow\nsettle\n";
+
+const FOUR_ANSWERED: &str =
+    "claim 1 -> ticket 0\nfront 1 -> seen 0\nlook 1 -> unknown 1\nlook 1 -> unknown 2\ncount 1 -> counted 0 2 1 3\noffer 1 -> kept 0\nclaim 2 -> ticket 1\nfront 2 -> seen 0\nlook 2 -> unknown 1\nlook 2 -> unknown 2\ncount 2 -> counted 0 2 1 3\noffer 2 -> kept 1\nclaim 3 -> ticket 2\nfront 3 -> seen 0\nlook 3 -> unknown 1\nlook 3 -> unknown 2\ncount 3 -> counted 0 2 1 3\noffer 3 -> kept 2\nclaim 4 -> ticket 3\nfront 4 -> seen 0\nlook 4 -> unknown 1\nlook 4 -> unknown 2\ncount 4 -> counted 0 2 1 3\noffer 4 -> kept 3\nsettle -> committed 0 0 1\nsettle -> skip\nshow -> shown 1\nsettle -> committed 1 3 0\nshow -> shown 2\nsettle -> stale 2 0 1\nforce -> recounted 2 1 2 1 1\nsettle -> committed 2 1 1\nshow -> shown 3\nsettle -> stale 3 1 2\nforce -> recounted 3 2 2 0 1\nsettle -> committed 3 2 1\nshow -> shown 4\nsettle -> ended 4\nlog 4 of 4\nrealisation 0\n1\n1\n1\n0\n";
+
+// Serves `replay` over the files of a run and these schedules.
+fn replay<R: Threads>(
+    rt: &R,
+    alloc: Global,
+    parameters: &str,
+    name: &str,
+    schedule: &str,
+) -> Result<Ended, Fail> {
+    let mut files = two_files(alloc, parameters, IMAGE)?;
+    files.put("s1", FOUR_AT_ONCE.as_bytes())?;
+    files.put(
+        "s2",
+        b"schedule 1\n\n# two workers\nrealisation 0 level 2 workers 2\n",
+    )?;
+    let mut words = two_words(alloc, "replay", name)?;
+    words.push(String::from_str(alloc, schedule)?)?;
+    let ended = serve_words(rt, alloc, &mut files, &words, false)?;
+    Ok(ended)
+}
+
+#[test]
+fn a_replay_tells_what_its_steps_were_answered(rt: HostRuntime) -> Result<(), Fail> {
+    let ended = replay(&rt, rt.alloc(), PARAMETERS, "p1", "s1")?;
+    assert_eq!(rt; ended.status, 0);
+    assert!(rt; ended.err.is_empty());
+    assert_eq!(rt; ended.out.as_slice(), FOUR_ANSWERED.as_bytes());
+    Ok(())
+}
+
+#[test]
+fn a_schedule_is_judged_behind_the_positions(rt: HostRuntime) -> Result<(), Fail> {
+    for (parameters, schedule, status, line) in [
+        (PARAMETERS, "s2", 10, "mpsim: schedule: line 4\n"),
+        (PARAMETERS, "s3", 3, "mpsim: cannot read s3\n"),
+        (
+            FIVE_REPLICATES,
+            "s2",
+            7,
+            "mpsim: too few positions at level 1: have 4, want 5\n",
+        ),
+    ] {
+        let ended = replay(&rt, rt.alloc(), parameters, "p1", schedule)?;
+        assert_eq!(rt; ended.status, status, "of {schedule}");
+        assert_eq!(rt; ended.err.as_slice(), line.as_bytes());
+        assert!(rt; ended.out.is_empty());
+    }
+    Ok(())
+}

@@ -1,6 +1,6 @@
 // The words of a command.
 ghost use Rattle.std.specs.Prelude.{◌≡◌, ◌≤◌, IfSome, length};
-ghost use Rattle.mps_top.specs.Words.{HasLevel, command_of as command_of_words, command_over as command_over_name, is_file as is_file_text, is_name as is_name_text, scan_over as scan_over_words, texts};
+ghost use Rattle.mps_top.specs.Words.{HasLevel, command_of as command_of_words, command_over as command_over_name, is_file as is_file_text, is_name as is_name_text, replay_over as replay_over_names, scan_over as scan_over_words, texts};
 
 use mps_inputs::Name;
 use mps_scan::{ScanWords, read_scan_words};
@@ -14,6 +14,8 @@ pub enum Command {
     Check { parameters: Name },
     /// Tells how often an event has replicates at a level.
     Scan { parameters: Name, words: ScanWords },
+    /// Simulates a realisation, one level by a schedule, and tells what its steps were answered.
+    Replay { parameters: Name, schedule: Name },
 }
 
 /// The command that the words are, or nothing exactly where they are none.
@@ -26,6 +28,13 @@ pub fn command_of(words: &[String]) -> Option<Command>
         [verb, name] => {
             if is_file(name.as_bytes()) {
                 command_over(verb.as_str(), name.as_str())
+            } else {
+                None
+            }
+        }
+        [verb, name, schedule] => {
+            if is_file(name.as_bytes()) && is_file(schedule.as_bytes()) {
+                replay_over(verb.as_str(), name.as_str(), schedule.as_str())
             } else {
                 None
             }
@@ -60,6 +69,23 @@ fn scan_over(verb: &str, name: &str, level: &[u8], event: &[u8]) -> Option<Comma
             }),
             None => None,
         }
+    } else {
+        None
+    }
+}
+
+// The command of a first word that takes a parameter file and a schedule.
+fn replay_over(verb: &str, name: &str, schedule: &str) -> Option<Command>
+    requires name { length name.now ≤ 255 }
+    requires schedule { length schedule.now ≤ 255 }
+    ensures command { result ≡ replay_over_names verb.now name.now schedule.now }
+    ensures level { IfSome result HasLevel }
+{
+    if verb == "replay" {
+        Some(Command::Replay {
+            parameters: Name::new(name),
+            schedule: Name::new(schedule),
+        })
     } else {
         None
     }
