@@ -8,6 +8,7 @@ use Rattle.mp_base.specs.Counts.{one_more}
 use Rattle.path_stream.specs.Words.{Place}
 use Rattle.event_retrieve.specs.declared.offer.Missed.{Missed}
 use Rattle.event_retrieve.specs.Plan.{Plan, nodes_in, cell_of, grid_at, known}
+use Rattle.event_retrieve.specs.Retrieval.{retained_of}
 use Rattle.event_retrieve.specs.Sequential.{log_of, entry_after, drawn}
 use Rattle.event_retrieve.specs.Offer.{IsSound, stale_by}
 use Rattle.commit_board.specs.declared.claim.Claim.{Claim}
@@ -154,6 +155,10 @@ IfCommitted (Stale front entry position) fact = Unit {0}
 -- the board with this offer kept for the front
 abbrev pub with_front : State → Offer → State
 with_front b o = with_slots b (slice_set b.slots 0 (Some o))
+
+-- what is retained of the front's known event
+abbrev pub recounted : Plan → State → Retained
+recounted p b = retained_of p (known p b.log (front b) (front b))
 
 -- the offer of the front that sees all entries
 abbrev pub front_offer : Plan → State → Retained → Offer

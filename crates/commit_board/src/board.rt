@@ -1,7 +1,9 @@
 // The board of a level.
-ghost use Rattle.std.specs.Prelude.{◌≡◌, ◌+◌, ◌-◌, ◌<◌, ◌≤◌, ◌^◌, [], IfOk, None, length, max, option_copied, replicate, slice_index};
+ghost use Rattle.std.specs.Prelude.{◌≡◌, ◌+◌, ◌-◌, ◌<◌, ◌≤◌, ◌^◌, [], All, IfOk, None, length, max, option_copied, replicate, slice_index};
+ghost use Rattle.mp_base.specs.declared.cell.Entry.{Entry};
 ghost use Rattle.ti_scan.specs.Event.{StandsFor};
 ghost use Rattle.event_retrieve.specs.Plan.{Plan, IsPlan};
+ghost use Rattle.event_retrieve.specs.Sequential.{sequential};
 ghost use Rattle.event_retrieve.specs.Offer.{IsSound, IsRetained, event_of_turn, stale_by};
 ghost use Rattle.commit_board.specs.Board.{Fits, IsBoard, claim_of, after_claim, keep_of, after_keep, settle_of, after_settle, with_entry, IfCommitted, IsNextEntry, with_front, offer_in, settle_at, entry_by, front_offer as offer_of_front};
 
@@ -270,6 +272,35 @@ impl Board {
     {
         self.log
     }
+
+    /// Commits what is left, each node by counting it again, and gives the log: the sequential log,
+    /// whatever was offered before.
+    pub fn finish<S: CountStore>(self, plan: &LevelPlan<'_>, store: &S) -> Vec<Entry>
+        requires fits { Fits plan.now self }
+        requires store { StandsFor S.gives S.reaches store.now plan.now.source }
+        ensures log { result.items ≡ sequential plan.now }
+        ensures cats { All (λ (e : Entry). e.cat < plan.now.source.cats) result.items }
+    {
+        let mut board = self;
+        let _ = (plan.length(), board.log().len());
+        while board.front() < board.length() {
+            commit_next(&mut board, plan, store);
+        }
+        board.into_log()
+    }
+}
+
+// Commits the front by counting it again.
+fn commit_next<S: CountStore>(board: &mut Board, plan: &LevelPlan<'_>, store: &S)
+    requires fits { Fits plan.now board.old }
+    requires left { length board.old.log < board.old.nodes }
+    requires store { StandsFor S.gives S.reaches store.now plan.now.source }
+    ensures fits { Fits plan.now board.new }
+    ensures one { length board.new.log ≡ length board.old.log + 1 }
+{
+    let _ = board.log().len();
+    board.recount(plan, store);
+    board.settle(plan);
 }
 
 // The first node that isn't claimed once the front is committed: the front may not have been.

@@ -12,3 +12,4 @@ pub mod Stale
 pub mod Fresh
 pub mod Between
 pub mod Gathered
+pub mod Below

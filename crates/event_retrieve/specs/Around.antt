@@ -1,5 +1,5 @@
 -- The cells around the nodes of a grid.
-use Rattle.std.specs.Prelude.{◌≡◌, ℕ, ◌<◌, pos, ◌-ℤ◌, List, length, slice_index, slice_index_or, Some}
+use Rattle.std.specs.Prelude.{◌≡◌, ℕ, ◌+◌, ◌<◌, pos, ◌-ℤ◌, List, length, map, slice_get, slice_index, slice_index_or, Option, Some, option_and_then}
 use Rattle.mp_base.specs.declared.cell.Vector.{Vector}
 use Rattle.mp_base.specs.Grid.{Sides, cell_at, x_of, y_of, z_of}
 
@@ -8,10 +8,23 @@ pub record Around : Type 0 where
   pub sides : Sides
   pub template : List Vector
 
+-- what is around one cell
+pub record Centre : Type 0 where
+  pub around : Around
+  pub cell : ℕ
+
+-- the cell at a vector from it, by the number of the vector, counted from 0, where that cell is inside
+abbrev pub cell_from : Centre → ℕ → Option ℕ
+cell_from c number = option_and_then (cell_at c.around.sides c.cell) (slice_get c.around.template number)
+
 -- the cells at the vectors from a cell
 pub record AreFrom (s : Sides) (template : List Vector) (c : ℕ) (cells : List ℕ) : Type 0 where
   pub count : length cells ≡ length template
   pub each : (i : ℕ) (v : Vector) → i < length template → cell_at s c (slice_index_or template i v) ≡ Some (slice_index cells i)
+
+-- each cell so much further
+abbrev pub moved_on : ℕ → List ℕ → List ℕ
+moved_on further cells = map (λ c. c + further) cells
 
 -- the vector from one cell to another
 abbrev pub vector_between : Sides → ℕ → ℕ → Vector

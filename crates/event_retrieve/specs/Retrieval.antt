@@ -3,6 +3,7 @@ use Rattle.std.specs.Prelude.{ℕ, ◌-◌, nat_le, nat_lt, ◌==◌, if◌then�
 use Rattle.ti_scan.specs.declared.event.Datum.{Datum}
 use Rattle.ti_scan.specs.Event.{counts_of}
 use Rattle.ti_scan.specs.Prefix.{longest}
+use Rattle.event_retrieve.specs.declared.retrieval.Retained.{Retained}
 use Rattle.event_retrieve.specs.Plan.{Plan}
 
 -- the first `max_data` data
@@ -30,6 +31,10 @@ reach_by first kept most last =
 
 unfoldable pub reach : Plan → List Datum → ℕ
 reach p event = reach_by (cut p event) (kept_len p (cut p event)) p.max_data (length p.source.template)
+
+-- what is retained of an event
+abbrev pub retained_of : Plan → List Datum → Retained
+retained_of p event = record { len = kept_len p (cut p event); reach = reach p event; counts = counts_of p.source (retained p event) }
 
 -- the data at positions up to r
 abbrev pub up_to : ℕ → List Datum → List Datum

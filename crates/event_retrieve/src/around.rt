@@ -1,13 +1,13 @@
 // The known cells around many nodes of one grid.
-ghost use Rattle.std.specs.Prelude.{◌≡◌, ◌<◌, ◌≤◌, IfOk, length, true};
+ghost use Rattle.std.specs.Prelude.{◌≡◌, ◌<◌, ◌≤◌, IfOk, IfSome, is_some, length, true};
 ghost use Rattle.mp_base.specs.Grid.{cells_of, cat_at};
 ghost use Rattle.ti_scan.specs.Event.{IsEvent};
 ghost use Rattle.ti_scan.specs.Window.{is_inside};
-ghost use Rattle.event_retrieve.specs.Around.{AreFrom};
+ghost use Rattle.event_retrieve.specs.Around.{AreFrom, cell_from, moved_on};
 ghost use Rattle.event_retrieve.specs.Plan.{data_by};
 
 use crate::known::{event_on, push_found};
-use mp_base::{CellId, Grid, NoMemory, Vector};
+use mp_base::{CellId, Grid, NoMemory, Shape, Vector};
 use std::alloc::Global;
 use std::marker::Model;
 use ti_scan::{Event, Ground, ground_of, is_within};
@@ -60,6 +60,79 @@ impl<'a> Surroundings<'a> {
         } else {
             event_on(grid, self.ground.vectors, cell)
         }
+    }
+
+    /// One cell of the grid, as the centre.
+    pub fn centre(&self, cell: CellId) -> Centre<'_>
+        requires { cell < cells_of self.now.sides }
+        ensures { result ≡ record { around = self.now; cell = cell } }
+    {
+        let cells = self.cells.as_slice();
+        Centre {
+            shape: self.ground.image.shape(),
+            vectors: self.ground.vectors,
+            cells,
+            cell,
+            further: further_from_first(&self.ground, cells, cell),
+        }
+    }
+}
+
+/// One cell of a grid, from which the cells at the vectors are asked for one by one.
+#[derive(Drop)]
+pub struct Centre<'a> {
+    shape: Shape,
+    vectors: &'a [Vector],
+    // The cells at the vectors from the first cell with room for the whole template.
+    cells: &'a [CellId],
+    cell: CellId,
+    // How much further the cells at the vectors from this cell are, if there is room for them all.
+    further: Option<u32>,
+}
+
+impl<'a> Model for Centre<'a> {
+    ghost use Rattle.std.specs.Prelude.{◌<◌, IfSome};
+    ghost use Rattle.mp_base.specs.Grid.{IsShape, cells_of};
+    ghost use Rattle.event_retrieve.specs.Around.{Centre, AreFrom, moved_on};
+
+    ghost Value = { Centre };
+
+    ghost view = { λ c. record { around = record { sides = c.shape; template = c.vectors.now }; cell = c.cell } };
+
+    ghost invariant = { λ c. IsShape c.shape × (c.cell < cells_of c.shape)
+        × IfSome c.further (λ n. AreFrom c.shape c.vectors.now c.cell (moved_on n c.cells.now)) };
+}
+
+impl<'a> Centre<'a> {
+    /// The cell at a vector from this one, by the number of the vector, counted from 0, or nothing
+    /// exactly where that is outside.
+    pub fn cell_at(&self, number: usize) -> Option<CellId>
+        requires { number < length self.now.around.template }
+        ensures cell { result ≡ cell_from self.now number }
+        ensures inside { IfSome result (λ c. c < cells_of self.now.around.sides) }
+    {
+        match self.further {
+            Some(further) => {
+                let first = self.cells[number];
+                Some(CellId(first.0 + further))
+            }
+            None => self.shape.step(self.cell, self.vectors[number]),
+        }
+    }
+}
+
+// How much further the cells at the vectors from a cell are than those from the first cell with room
+// for the whole template, if there is room around it too.
+fn further_from_first(ground: &Ground<'_>, cells: &[CellId], cell: CellId) -> Option<u32>
+    requires cells { 0 < ground.now.span.cells → AreFrom ground.now.image.now.sides ground.now.vectors.now ground.now.span.first cells.now }
+    requires cell { cell < cells_of ground.now.image.now.sides }
+    ensures room { is_some result ≡ is_inside ground.now.image.now.sides ground.now.vectors.now cell }
+    ensures further { IfSome result (λ n. AreFrom ground.now.image.now.sides ground.now.vectors.now cell (moved_on n cells.now)) }
+{
+    if is_within(ground.margins, ground.image.shape(), cell) {
+        Some(cell.0 - ground.span.first)
+    } else {
+        None
     }
 }
 

@@ -2,7 +2,7 @@
 ghost use Rattle.std.specs.Prelude.{◌≡◌, ℕ, ◌+◌, ◌-◌, ◌<◌, ◌≤◌, [], length, true};
 ghost use Rattle.mp_base.specs.Grid.{cells_of};
 ghost use Rattle.ti_scan.specs.Event.{IsEvent, StandsFor};
-ghost use Rattle.event_retrieve.specs.Plan.{Plan};
+ghost use Rattle.event_retrieve.specs.Plan.{Plan, cell_at_position as cell_there};
 ghost use Rattle.event_retrieve.specs.declared.gather.Wanted.TheVariants.{Done};
 ghost use Rattle.event_retrieve.specs.Offer.{IsRetained, IsSound};
 ghost use Rattle.event_retrieve.specs.Gather.{wanted_of, MayPut, IfCell, LiesBetween, MayBeRead, after_put, is_early as early};
@@ -70,10 +70,29 @@ impl Gather {
         ensures past { result ≡ Done → length plan.now.source.template < self.now.position }
     {
         let position = self.position;
+        let cell = if position > plan.template_len() {
+            None
+        } else {
+            cell_at_position(plan, self.index, position)
+        };
+        self.wanted_at(plan, cell)
+    }
+
+    /// What is wanted at the next position, by the cell there: `wanted` for a caller who has it at
+    /// hand.
+    pub fn wanted_at(&self, plan: &LevelPlan<'_>, cell: Option<CellId>) -> Wanted
+        requires index { self.now.index < length plan.now.path }
+        requires cell { cell ≡ cell_there plan.now self.now.index self.now.position }
+        ensures wanted { result ≡ wanted_of plan.now self.now }
+        ensures inside { IfCell result (λ c. c < cells_of plan.now.start.sides) }
+        ensures early { IfCell result (λ c. early plan.now self.now.index c ≡ true) }
+        ensures past { result ≡ Done → length plan.now.source.template < self.now.position }
+    {
+        let position = self.position;
         if position > plan.template_len() {
             return Wanted::Done;
         }
-        match cell_at_position(plan, self.index, position) {
+        match cell {
             None => Wanted::Outside { position },
             Some(cell) if is_early(plan, self.index, cell) => Wanted::Cell { position, cell },
             Some(_) => Wanted::Later { position },
@@ -127,16 +146,15 @@ impl Gather {
     }
 }
 
-// Whether a cell is known at the start or its turn comes before the node's.
+// Whether a cell is known at the start or its turn comes before the node's. A cell that has a turn
+// is unknown at the start.
 fn is_early(plan: &LevelPlan<'_>, index: u32, cell: CellId) -> bool
     requires cell { cell < cells_of plan.now.start.sides }
     ensures { result ≡ early plan.now index cell }
 {
-    if plan.start().get(cell).is_some() {
-        return true;
-    }
+    let start = plan.start();
     match plan.rank_of(cell) {
         Some(rank) => rank < index,
-        None => false,
+        None => start.get(cell).is_some(),
     }
 }

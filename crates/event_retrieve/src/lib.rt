@@ -13,7 +13,7 @@ mod shared;
 #[cfg(test)]
 mod tests;
 
-pub use around::Surroundings;
+pub use around::{Centre, Surroundings};
 pub use drawing::{draw, pick_with};
 pub use gather::{Gather, Wanted};
 pub use known::{cat_after, event_on, known_event};

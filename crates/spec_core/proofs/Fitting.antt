@@ -11,7 +11,7 @@ use Rattle.event_retrieve.specs.Gather.{Gathering, IfCell, MayBeRead, MayPut, af
 use Rattle.event_retrieve.specs.Offer.{IsSound}
 use Rattle.event_retrieve.specs.Plan.{Plan, IsPlan, cell_at_position, nodes_in}
 use Rattle.event_retrieve.proofs.Gathered.{between_all, empty_between, may_not_done, put_between, put_rises}
-use Rattle.commit_board.specs.Board.{State, Fits, IsBoard, after_claim, after_keep, after_settle, claim_of, front, front_offer, keep_of, settle_of, with_front}
+use Rattle.commit_board.specs.Board.{State, Fits, IsBoard, after_claim, after_keep, after_settle, claim_of, front, front_offer, keep_of, settle_of, with_front, recounted}
 use Rattle.commit_board.specs.declared.claim.Claim.{Claim}
 use Rattle.commit_board.specs.declared.claim.Claim.TheVariants as claim
 use Rattle.commit_board.specs.declared.claim.Ticket.{Ticket}
@@ -25,7 +25,7 @@ use Rattle.spec_steps.specs.declared.step.Step.TheVariants as step
 use Rattle.spec_core.specs.declared.worker.Worker.{Worker}
 use Rattle.spec_core.specs.declared.worker.Worker.TheVariants.{Idle, Claimed, Looking, Counted}
 use Rattle.spec_core.specs.Worker.{after_count, after_front, after_look, cat_by, claimed_by, gathered, gathering_at, is_done, offer_of, worker_offered}
-use Rattle.spec_core.specs.World.{Machine, FitsLooking, FitsPlan, FitsWorker, after, after_both, after_own, board_claimed, board_offered, is_shown, may_force, recounted, with_board, with_worker, worker_claimed, worker_of}
+use Rattle.spec_core.specs.World.{Machine, FitsLooking, FitsPlan, FitsWorker, after, after_both, after_own, board_claimed, board_offered, is_shown, may_force, with_board, with_worker, worker_claimed, worker_of}
 
 -- each worker fits
 abbrev AllFit : Plan → ℕ → ℕ → List Worker → Type 0

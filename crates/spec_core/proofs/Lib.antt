@@ -1,5 +1,3 @@
-pub mod Below
-pub mod Finishing
 pub mod Fitting
 pub mod Naming
 pub mod Placing

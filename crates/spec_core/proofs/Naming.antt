@@ -9,7 +9,7 @@ use Rattle.event_retrieve.specs.declared.gather.Wanted.{Wanted}
 use Rattle.event_retrieve.specs.declared.gather.Wanted.TheVariants.{Done, Outside, Later, Cell}
 use Rattle.event_retrieve.specs.Gather.{wanted_of}
 use Rattle.event_retrieve.specs.Plan.{Plan, IsPlan, grid_at}
-use Rattle.commit_board.specs.Board.{State, Fits, after_settle, front, settle_of}
+use Rattle.commit_board.specs.Board.{State, Fits, after_settle, front, settle_of, recounted}
 use Rattle.commit_board.specs.declared.settle.Settle.{Settle}
 use Rattle.commit_board.specs.declared.settle.Settle.TheVariants.{Committed, Ended, NotOffered, Stale}
 use Rattle.spec_steps.specs.Answers.{category_in, committed_category}
@@ -17,11 +17,12 @@ use Rattle.spec_steps.specs.declared.answer.Answer.{Answer}
 use Rattle.spec_steps.specs.declared.answer.Answer.TheVariants as answer
 use Rattle.spec_steps.specs.declared.step.Step.{Step}
 use Rattle.spec_steps.specs.declared.step.Step.TheVariants as step
+use Rattle.event_retrieve.specs.Retrieval.{retained_of}
 use Rattle.spec_core.specs.declared.worker.Worker.{Worker}
 use Rattle.spec_core.specs.declared.worker.Worker.TheVariants.{Idle, Claimed, Looking, Counted}
-use Rattle.spec_core.specs.Worker.{cat_by, count_answer, front_answer, is_done, look_answer, look_at, read_answer, retained_of}
-use Rattle.spec_core.specs.World.{Machine, after, answer_by, answer_of, claim_answer, is_shown, may_force, offer_answer, recounted, with_board, worker_of}
-use Rattle.spec_core.proofs.Below.{log_below}
+use Rattle.spec_core.specs.Worker.{cat_by, count_answer, front_answer, is_done, look_answer, look_at, read_answer}
+use Rattle.spec_core.specs.World.{Machine, after, answer_by, answer_of, claim_answer, is_shown, may_force, offer_answer, with_board, worker_of}
+use Rattle.event_retrieve.proofs.Below.{log_below}
 
 -- an answer that names nothing, or is skipped
 either : (n : ℕ) (done : Bool) (a b : Answer) → IsBelow n (category_in a) → IsBelow n (category_in b) → IsBelow n (category_in (cond done a b))

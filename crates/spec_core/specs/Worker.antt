@@ -2,15 +2,12 @@
 use Rattle.std.specs.Prelude.{⊤, ℕ, ◌+◌, ◌≤◌, ◌<◌, nat_lt, Bool, true, false, if◌then◌else◌, List, [], length, Option, Some, None}
 use Rattle.mp_base.specs.declared.cell.Entry.{Entry}
 use Rattle.mp_base.specs.Grid.{cat_of}
-use Rattle.ti_scan.specs.declared.event.Datum.{Datum}
-use Rattle.ti_scan.specs.Event.{counts_of}
 use Rattle.event_retrieve.specs.declared.gather.Wanted.{Wanted}
 use Rattle.event_retrieve.specs.declared.gather.Wanted.TheVariants.{Done, Outside, Later, Cell}
 use Rattle.event_retrieve.specs.declared.offer.Offer.{Offer}
-use Rattle.event_retrieve.specs.declared.retrieval.Retained.{Retained}
 use Rattle.event_retrieve.specs.Gather.{Gathering, after_put, wanted_of}
 use Rattle.event_retrieve.specs.Plan.{Plan, grid_at, nodes_in}
-use Rattle.event_retrieve.specs.Retrieval.{cut, kept_len, reach, retained}
+use Rattle.event_retrieve.specs.Retrieval.{retained_of}
 use Rattle.commit_board.specs.declared.claim.Claim.{Claim}
 use Rattle.commit_board.specs.declared.claim.Claim.TheVariants as claim
 use Rattle.spec_steps.specs.declared.answer.Answer.{Answer}
@@ -93,10 +90,6 @@ after_look p log Idle = Idle
 after_look p log (Claimed i) = Claimed i
 after_look p log (Looking seen g) = Looking seen (gathered p log g (wanted_of p g))
 after_look p log (Counted o) = Counted o
-
--- what is retained of an event
-abbrev pub retained_of : Plan → List Datum → Retained
-retained_of p event = record { len = kept_len p (cut p event); reach = reach p event; counts = counts_of p.source (retained p event) }
 
 -- the offer of what was seen
 abbrev pub offer_of : Plan → ℕ → Gathering → Offer

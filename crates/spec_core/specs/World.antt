@@ -3,18 +3,17 @@ use Rattle.std.specs.Prelude.{⊤, ◌≡◌, ℕ, zero, suc, Bool, ◌+◌, ◌
 use Rattle.mp_base.specs.Cells.{category_counts}
 use Rattle.ti_scan.specs.Event.{IsEvent}
 use Rattle.event_retrieve.specs.declared.offer.Offer.{Offer}
-use Rattle.event_retrieve.specs.declared.retrieval.Retained.{Retained}
 use Rattle.event_retrieve.specs.Gather.{Gathering, LiesBetween}
 use Rattle.event_retrieve.specs.Offer.{IsSound}
-use Rattle.event_retrieve.specs.Plan.{Plan, known, nodes_in}
-use Rattle.commit_board.specs.Board.{State, Fits, after_claim, after_keep, after_settle, claim_of, draw_place, front, front_offer, keep_of, settle_of, state, with_front}
+use Rattle.event_retrieve.specs.Plan.{Plan, nodes_in}
+use Rattle.commit_board.specs.Board.{State, Fits, after_claim, after_keep, after_settle, claim_of, draw_place, front, front_offer, keep_of, recounted, settle_of, state, with_front}
 use Rattle.spec_steps.specs.declared.answer.Answer.{Answer}
 use Rattle.spec_steps.specs.declared.answer.Answer.TheVariants as answer
 use Rattle.spec_steps.specs.declared.step.Step.{Step}
 use Rattle.spec_steps.specs.declared.step.Step.TheVariants as step
 use Rattle.spec_core.specs.declared.worker.Worker.{Worker}
 use Rattle.spec_core.specs.declared.worker.Worker.TheVariants.{Idle, Claimed, Looking, Counted}
-use Rattle.spec_core.specs.Worker.{after_count, after_front, after_look, claimed_by, count_answer, front_answer, look_answer, retained_of, worker_offered}
+use Rattle.spec_core.specs.Worker.{after_count, after_front, after_look, claimed_by, count_answer, front_answer, look_answer, worker_offered}
 
 pub record Machine : Type 0 where
   pub board : State
@@ -87,10 +86,6 @@ after_both m n (Some w) board own = with_worker (with_board m (board w)) n (own 
 -- all that is committed is shown
 abbrev pub is_shown : Machine → Bool
 is_shown m = m.shown == front m.board
-
--- what is retained of the front's known event
-abbrev pub recounted : Plan → State → Retained
-recounted p b = retained_of p (known p b.log (front b) (front b))
 
 abbrev pub may_force : Machine → Bool
 may_force m = is_shown m && nat_lt (front m.board) m.board.nodes

@@ -235,12 +235,7 @@ impl World {
         ensures log { result.items ≡ sequential plan.now }
         ensures cats { All (λ e. e.cat < plan.now.source.cats) result.items }
     {
-        let mut board = self.board;
-        let _ = (plan.length(), board.log().len());
-        while board.front() < board.length() {
-            commit_next(&mut board, plan, store);
-        }
-        board.into_log()
+        self.board.finish(plan, store)
     }
 }
 
@@ -272,17 +267,4 @@ fn offer_of(board: &mut Board, worker: &mut Worker) -> Answer
     let index = offer.index;
     let keep = board.keep(offer);
     Answer::Offered { index, keep }
-}
-
-// Commits the front by counting it again.
-fn commit_next<S: CountStore>(board: &mut Board, plan: &LevelPlan<'_>, store: &S)
-    requires fits { Fits plan.now board.old }
-    requires left { length board.old.log < board.old.nodes }
-    requires store { StandsFor S.gives S.reaches store.now plan.now.source }
-    ensures fits { Fits plan.now board.new }
-    ensures one { length board.new.log ≡ length board.old.log + 1 }
-{
-    let _ = board.log().len();
-    board.recount(plan, store);
-    board.settle(plan);
 }

@@ -1,4 +1,4 @@
-use Rattle.std.proofs.Common.{arith, ◌≡◌, ℕ, ◌+◌, ◌-◌, ◌≤◌, List, ◌++◌, option_to_list, subst, sym, ap, ◌∙◌}
+use Rattle.std.proofs.Common.{arith, ◌≡◌, ◌+◌, ◌-◌, ◌≤◌, List, ◌++◌, option_to_list, subst, sym, ap, ◌∙◌}
 use Rattle.ti_scan.specs.declared.event.Datum.{Datum}
 use Rattle.ti_scan.specs.Rising.{RisesFrom}
 use Rattle.event_retrieve.specs.Plan.{datum_at}

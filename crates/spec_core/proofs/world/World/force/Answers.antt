@@ -2,10 +2,10 @@ use Rattle.std.proofs.Common.{arith, ap, sym, subst, cond, Bool, true, ℕ, ◌�
 use Rattle.std.proofs.lemmas.Bool.Decides.{nat_tests}
 use Rattle.event_retrieve.specs.declared.retrieval.Retained.{Retained}
 use Rattle.event_retrieve.specs.Offer.{IsRetained, event_of_turn}
-use Rattle.commit_board.specs.Board.{State, front, front_offer, with_front}
+use Rattle.commit_board.specs.Board.{State, front, front_offer, with_front, recounted}
 use Rattle.spec_steps.specs.declared.answer.Answer.TheVariants.{Recounted, Skip}
-use Rattle.spec_core.specs.World.{Machine, machine, may_force, recounted}
-use Rattle.spec_core.proofs.Finishing.{recounted_is}
+use Rattle.spec_core.specs.World.{Machine, machine, may_force}
+use Rattle.commit_board.proofs.Again.{recounted_is}
 use Rattle.spec_core.proofs.world.World.force.Given as given
 use Rattle.spec_core.proofs.world.World.force.Goals as goal
 

@@ -1,7 +1,7 @@
 use Rattle.std.proofs.Common.{◌-◌, ◌≤◌, length}
 use Rattle.event_retrieve.specs.Plan.{nodes_in}
 use Rattle.commit_board.specs.Board.{Fits}
-use Rattle.spec_core.proofs.world.World.finish.Given as goal
+use Rattle.commit_board.proofs.board.Board.finish.Given as goal
 
 abbrev pub invariant-loop-board : goal.invariant-loop-board
 invariant-loop-board g l = record {

@@ -1,7 +1,7 @@
 use Rattle.std.proofs.Common.{◌∙◌, ◌<◌, List, All, length, subst, sym}
 use Rattle.mp_base.specs.declared.cell.Entry.{Entry}
-use Rattle.spec_core.proofs.Below.{log_below}
-use Rattle.spec_core.proofs.world.World.finish.Goals as goal
+use Rattle.event_retrieve.proofs.Below.{log_below}
+use Rattle.commit_board.proofs.board.Board.finish.Goals as goal
 
 pub returns-clause-cats : goal.returns-clause-cats
 returns-clause-cats g c =

@@ -1,7 +1,7 @@
 use Rattle.std.proofs.Common.{ap, length, ◌∙◌}
 use Rattle.commit_board.specs.Board.{State, after_settle, settle_of}
-use Rattle.spec_core.proofs.Finishing.{committed_again}
-use Rattle.spec_core.proofs.world.commit_next.Goals as goal
+use Rattle.commit_board.proofs.Again.{committed_again}
+use Rattle.commit_board.proofs.board.commit_next.Goals as goal
 
 pub returns-clause-one : goal.returns-clause-one
 returns-clause-one g c =

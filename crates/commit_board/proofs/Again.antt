@@ -7,13 +7,12 @@ use Rattle.event_retrieve.specs.declared.offer.Offer.{Offer}
 use Rattle.event_retrieve.specs.declared.retrieval.Retained.{Retained}
 use Rattle.event_retrieve.specs.Offer.{IsRetained, event_of_turn, stale_by}
 use Rattle.event_retrieve.specs.Plan.{Plan, known, nodes_in}
+use Rattle.event_retrieve.specs.Retrieval.{retained_of}
 use Rattle.event_retrieve.proofs.Stale.{stale_by_is_none}
 use Rattle.commit_board.specs.declared.settle.Settle.{Settle}
 use Rattle.commit_board.specs.declared.settle.Settle.TheVariants.{Committed, Ended}
-use Rattle.commit_board.specs.Board.{State, Fits, IsBoard, after_settle, entry_by, front, front_offer, kept_at, offer_in, settle_at, settle_by, settle_of, with_front}
+use Rattle.commit_board.specs.Board.{State, Fits, IsBoard, after_settle, entry_by, front, front_offer, kept_at, offer_in, recounted, settle_at, settle_by, settle_of, with_front}
 use Rattle.commit_board.proofs.Committing.{event_before}
-use Rattle.spec_core.specs.Worker.{retained_of}
-use Rattle.spec_core.specs.World.{recounted}
 
 abbrev retained_by : ℕ → ℕ → List ℕ → Retained
 retained_by len reach counts = record { len = len; reach = reach; counts = counts }
