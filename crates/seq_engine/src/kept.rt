@@ -1,5 +1,5 @@
 // Search trees that are kept, each with what it was built from, for further levels over the same.
-ghost use Rattle.std.specs.Prelude.{◌≡◌, ◌≤◌, ◌⊎◌, ◌^◌, [], ◌∷◌, ◌++◌, IfOk, IfSome, IsTrue};
+ghost use Rattle.std.specs.Prelude.{◌≡◌, ◌+◌, ◌≤◌, ◌⊎◌, ◌^◌, [], ◌∷◌, ◌++◌, IfOk, IfSome, IsTrue};
 ghost use Rattle.ti_scan.specs.Event.{StandsFor};
 ghost use Rattle.search_tree.specs.Patterns.{bits_of, pattern_counts, reach_of};
 ghost use Rattle.seq_engine.specs.Kept.{bits_in};
@@ -52,8 +52,8 @@ fn are_same_vectors(vectors: &[Vector], others: &[Vector]) -> bool
 }
 
 impl KeptTree {
-    // The tree with copies of what it was built from.
-    fn new(alloc: Global, eroded: &Eroded<'_>, tree: SearchTree) -> Result<KeptTree, NoMemory>
+    /// The tree with copies of what it was built from.
+    pub fn new(alloc: Global, eroded: &Eroded<'_>, tree: SearchTree) -> Result<KeptTree, NoMemory>
         requires { StandsFor pattern_counts reach_of tree eroded.now }
         ensures { IfOk result (λ kept. kept ≡ record { source = eroded.now; bits = bits_of tree }) }
     {
@@ -74,6 +74,13 @@ impl KeptTree {
         self.cats == eroded.cats()
             && are_same_vectors(self.vectors.as_slice(), eroded.template().vectors())
             && is_same_image(&self.image, eroded.image())
+    }
+
+    // How many bits say what its patterns show.
+    fn bits(&self) -> u64
+        ensures { result ≡ self.now.bits }
+    {
+        self.tree.bits()
     }
 
     // The tree.
@@ -126,6 +133,14 @@ impl KeptTrees {
         None
     }
 
+    // Whether there is room for another tree of so many bits.
+    fn has_room(&self, bits: u64) -> bool
+        ensures room { IsTrue result → bits_in self.now + bits ≤ 2 ^ 31 }
+        ensures few { bits_in self.now ≤ 2 ^ 31 }
+    {
+        self.trees.len() < MOST_TREES && bits <= MOST_BITS - self.bits
+    }
+
     /// Keeps the tree of these eroded positions. It is let go instead where there are enough trees,
     /// where the patterns of all would have too many bits, or where memory for the copies runs out.
     pub fn keep(&mut self, alloc: Global, eroded: &Eroded<'_>, tree: SearchTree)
@@ -133,14 +148,21 @@ impl KeptTrees {
         ensures kept { (self.new ≡ self.old) ⊎ (self.new ≡ self.old ++ (record { source = eroded.now; bits = bits_of tree }) ∷ []) }
         ensures few { bits_in self.new ≤ 2 ^ 31 }
     {
-        let bits = tree.bits();
-        if self.trees.len() >= MOST_TREES || bits > MOST_BITS - self.bits {
+        if !self.has_room(tree.bits()) {
             return;
         }
-        let Ok(kept) = KeptTree::new(alloc, eroded, tree) else {
-            return;
-        };
-        if self.trees.push(kept).is_ok() {
+        if let Ok(kept) = KeptTree::new(alloc, eroded, tree) {
+            self.put(kept);
+        }
+    }
+
+    /// The same of a tree that has its copies.
+    pub fn put(&mut self, kept: KeptTree)
+        ensures kept { (self.new ≡ self.old) ⊎ (self.new ≡ self.old ++ kept ∷ []) }
+        ensures few { bits_in self.new ≤ 2 ^ 31 }
+    {
+        let bits = kept.bits();
+        if self.has_room(bits) && self.trees.push(kept).is_ok() {
             self.bits += bits;
         }
     }

@@ -2,6 +2,7 @@
 //! each from the nodes before it.
 #![tactic(auto)]
 
+mod building;
 mod kept;
 mod level;
 mod plan;
@@ -11,6 +12,7 @@ mod realisation;
 mod recount;
 mod runner;
 mod setup;
+mod stores;
 #[cfg(test)]
 mod tests;
 
@@ -18,5 +20,6 @@ pub use level::run_level;
 pub use plan::plan_level;
 pub use positions::check_positions;
 pub use realisation::run_realisation;
-pub use runner::{LevelRunner, OneThread, StoreKind};
+pub use runner::{LevelRunner, OneThread};
 pub use setup::{RunError, Setup};
+pub use stores::{Store, StoreKind, Stores};

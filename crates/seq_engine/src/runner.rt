@@ -1,13 +1,14 @@
 // Runners of levels.
 ghost use Rattle.std.specs.Prelude.{◌≡◌, ◌<◌, All, IfOk, OnOk};
+ghost use Rattle.ti_scan.specs.Event.{StandsFor};
 ghost use Rattle.event_retrieve.specs.Plan.{Plan};
 ghost use Rattle.event_retrieve.specs.Sequential.{sequential};
+ghost use Rattle.seq_engine.specs.Store.{store_counts, store_reach};
 
-use crate::kept::KeptTrees;
 use crate::level::run_level;
+use crate::stores::{Store, StoreKind, Stores};
 use event_retrieve::LevelPlan;
 use mp_base::{Entry, NoMemory};
-use search_tree::SearchTree;
 use std::alloc::Global;
 use std::marker::Model;
 use std::thread::Threads;
@@ -29,30 +30,19 @@ pub trait LevelRunner {
         ensures ran { OnOk result (ran self.old plan.now self.new) };
 }
 
-/// How replicates are counted.
-#[derive(Clone, Copy, Debug, PartialEq, Eq)]
-pub enum StoreKind {
-    /// By a look at every eroded position.
-    Scan,
-    /// By a search tree for each level. Levels over the same image and template share theirs.
-    Tree,
-}
-
 /// Simulates levels on one thread. To a caller it is the way in which it counts.
 #[derive(Drop)]
 pub struct OneThread<'a, R: Threads> {
     rt: &'a R,
-    kind: StoreKind,
-    // The trees that it has built, for further realisations: there are none before the first.
-    kept: Option<KeptTrees>,
+    stores: Stores,
 }
 
 impl<'a, R: Threads> Model for OneThread<'a, R> {
-    ghost use Rattle.seq_engine.specs.declared.runner.StoreKind.{StoreKind};
+    ghost use Rattle.seq_engine.specs.declared.stores.StoreKind.{StoreKind};
 
     ghost Value = { StoreKind };
 
-    ghost view = { λ runner. runner.kind };
+    ghost view = { λ runner. runner.stores };
 }
 
 impl<'a, R: Threads> OneThread<'a, R> {
@@ -62,8 +52,7 @@ impl<'a, R: Threads> OneThread<'a, R> {
     {
         OneThread {
             rt,
-            kind,
-            kept: None,
+            stores: Stores::new(kind),
         }
     }
 }
@@ -77,36 +66,11 @@ impl<'a, R: Threads> LevelRunner for OneThread<'a, R> {
     ghost ran = { λ before _ now. now ≡ before };
 
     fn run(&mut self, alloc: Global, plan: &LevelPlan<'_>) -> Result<Vec<Entry>, NoMemory> {
-        match self.kind {
-            StoreKind::Scan => run_level(alloc, plan, plan.eroded()),
-            StoreKind::Tree => {
-                let mut kept = match self.kept.take() {
-                    Some(kept) => kept,
-                    None => KeptTrees::new(alloc),
-                };
-                let log = run_by_tree(alloc, plan, &mut kept);
-                self.kept = Some(kept);
-                log
-            }
-        }
+        let simulate = |alloc: Global, plan: &LevelPlan<'_>, store: Store<'_>|
+            requires { StandsFor store_counts store_reach store plan.now.source }
+            ensures log { IfOk result (λ log. log.items ≡ sequential plan.now) }
+            ensures cats { IfOk result (λ log. All (λ e. e.cat < plan.now.source.cats) log.items) }
+        { run_level(alloc, plan, &store) };
+        self.stores.run(alloc, plan, &simulate)
     }
-}
-
-// The entries of a level, counted by its tree: a kept one, or else a new one.
-fn run_by_tree(
-    alloc: Global,
-    plan: &LevelPlan<'_>,
-    kept: &mut KeptTrees,
-) -> Result<Vec<Entry>, NoMemory>
-    ensures log { IfOk result (λ log. log.items ≡ sequential plan.now) }
-    ensures cats { IfOk result (λ log. All (λ e. e.cat < plan.now.source.cats) log.items) }
-{
-    let eroded = plan.eroded();
-    if let Some(tree) = kept.find(eroded) {
-        return run_level(alloc, plan, tree);
-    }
-    let tree = SearchTree::build(alloc, eroded)?;
-    let log = run_level(alloc, plan, &tree)?;
-    kept.keep(alloc, eroded, tree);
-    Ok(log)
 }

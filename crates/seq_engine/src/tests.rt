@@ -1,10 +1,17 @@
 // Worked realisations, and a setup for tests.
-ghost use Rattle.std.specs.Prelude.{◌≡◌, All, IfOk, false};
+ghost use Rattle.std.specs.Prelude.{◌≡◌, ◌<◌, All, IfOk, false};
 ghost use Rattle.mp_base.specs.Grid.{IsBelow};
+ghost use Rattle.ti_scan.specs.Event.{StandsFor};
+ghost use Rattle.event_retrieve.specs.Sequential.{sequential};
 ghost use Rattle.seq_engine.specs.Setup.{IsSetup};
+ghost use Rattle.seq_engine.specs.Store.{store_counts, store_reach};
 
-use crate::{OneThread, RunError, Setup, StoreKind, check_positions, run_realisation};
-use mp_base::{Cat, CellId, Counts, Grid, NoMemory, Shape};
+use crate::{
+    LevelRunner, OneThread, RunError, Setup, Store, StoreKind, Stores, check_positions, run_level,
+    run_realisation,
+};
+use event_retrieve::LevelPlan;
+use mp_base::{Cat, CellId, Counts, Entry, Grid, NoMemory, Shape};
 use servo_fraction::Target;
 use std::alloc::Global;
 use std::test::Fail;
@@ -41,6 +48,11 @@ pub fn setup_over(
 
 // What is written for a cell that has nothing.
 const NONE: u8 = 2;
+
+// An image of one row.
+const WAVES: [u8; 30] = [
+    0, 0, 1, 1, 0, 1, 0, 0, 1, 1, 1, 0, 0, 1, 0, 1, 1, 0, 0, 0, 1, 0, 1, 1, 0, 0, 1, 1, 1, 0,
+];
 
 // A grid of one row.
 fn row(alloc: Global, cats: &[u8]) -> Result<Grid, NoMemory>
@@ -160,10 +172,7 @@ fn the_coarsest_level_with_too_few_positions_is_named(rt: HostRuntime) -> Result
 #[test]
 fn a_runner_serves_each_setup_by_its_own_trees(rt: HostRuntime) -> Result<(), Fail> {
     let six = [0, 1, 1, 0, 1, 1].as_slice();
-    let waves = [
-        0, 0, 1, 1, 0, 1, 0, 0, 1, 1, 1, 0, 0, 1, 0, 1, 1, 0, 0, 0, 1, 0, 1, 1, 0, 0, 1, 1, 1, 0,
-    ]
-    .as_slice();
+    let waves = WAVES.as_slice();
     let bands = [
         1, 1, 1, 0, 0, 0, 1, 1, 1, 0, 0, 0, 0, 1, 1, 1, 1, 0, 0, 0, 1, 1, 1, 0, 0, 0, 1, 1, 1, 1,
     ]
@@ -192,6 +201,52 @@ fn a_runner_serves_each_setup_by_its_own_trees(rt: HostRuntime) -> Result<(), Fa
                 assert_eq!(rt; realisation.as_bytes(), [1, 1, 1, 0].as_slice());
             }
         }
+    }
+    Ok(())
+}
+
+// Simulates each level over stores that were prepared before the first.
+#[derive(Drop)]
+struct Prepared {
+    stores: Stores,
+}
+
+impl LevelRunner for Prepared {
+    ghost use Rattle.std.specs.Prelude.{⊤};
+
+    ghost ready = { λ _. ⊤ };
+
+    ghost ran = { λ _ _ _. ⊤ };
+
+    fn run(&mut self, alloc: Global, plan: &LevelPlan<'_>) -> Result<Vec<Entry>, NoMemory> {
+        let simulate = |alloc: Global, plan: &LevelPlan<'_>, store: Store<'_>|
+            requires { StandsFor store_counts store_reach store plan.now.source }
+            ensures log { IfOk result (λ log. log.items ≡ sequential plan.now) }
+            ensures cats { IfOk result (λ log. All (λ e. e.cat < plan.now.source.cats) log.items) }
+        { run_level(alloc, plan, &store) };
+        self.stores.run(alloc, plan, &simulate)
+    }
+}
+
+#[test]
+fn trees_that_were_built_side_by_side_change_no_answer(rt: HostRuntime) -> Result<(), Fail> {
+    for (kind, threads) in [
+        (StoreKind::Scan, 2),
+        (StoreKind::Tree, 1),
+        (StoreKind::Tree, 2),
+        (StoreKind::Tree, 4),
+    ] {
+        let image = row(rt.alloc(), WAVES.as_slice())?;
+        let template = along_x(rt.alloc(), 2, 4)?;
+        let hard = row(rt.alloc(), &[NONE; 20])?;
+        let setup = setup_over(image, template, hard, 3, 1, 0);
+        let mut stores = Stores::new(kind);
+        stores.prepare(&rt, rt.alloc(), &setup, threads);
+        let mut runner = Prepared { stores };
+        let realisation = run_realisation(rt.alloc(), &setup, 0, &mut runner)?;
+        let mut fresh = OneThread::new(&rt, StoreKind::Scan);
+        let anew = run_realisation(rt.alloc(), &setup, 0, &mut fresh)?;
+        assert_eq!(rt; realisation.as_bytes(), anew.as_bytes());
     }
     Ok(())
 }
