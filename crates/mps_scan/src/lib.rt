@@ -12,4 +12,4 @@ mod text;
 mod words;
 
 pub use command::scan;
-pub use words::{ScanWords, read_scan_words};
+pub use words::{ScanWords, number_up_to, read_scan_words};

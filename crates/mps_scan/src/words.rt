@@ -118,8 +118,8 @@ fn code_of(text: &[u8]) -> Option<i32>
     }
 }
 
-// The number from 1 to `last` that one to `most` digits write.
-fn number_up_to(text: &[u8], most: usize, last: u8) -> Option<u8>
+/// The number from 1 to `last` that one to `most` digits write.
+pub fn number_up_to(text: &[u8], most: usize, last: u8) -> Option<u8>
     requires { most ≤ 9 }
     ensures value { result ≡ up_to last (short_number most text.now) }
     ensures some { IfSome result (λ number. 1 ≤ number) }

@@ -25,9 +25,13 @@ check_of inputs = do
   positions ← positions_of (setup_for inputs)
   check_done inputs positions
 
--- the outcome of a command, by what the files hold
+-- what `run` comes to, by what the files hold
+abbrev pub run_outcome : List ℕ → Held → Result Done Fault
+run_outcome name held = inputs_of name held >>= run_of
+
+-- the outcome of a command, by what the files hold; that of `run` with any number of workers is one
 abbrev pub outcome_for : Command → Held → Result Done Fault
-outcome_for (Run name) held = inputs_of name held >>= run_of
+outcome_for (Run name workers) held = run_outcome name held
 outcome_for (Check name) held = inputs_of name held >>= check_of
 outcome_for (Scan name words) held = scan_outcome name words held
 outcome_for (Replay name schedule) held = replay_outcome name schedule held

@@ -2,12 +2,13 @@
 //! status.
 #![tactic(auto)]
 
-mod answer;
+mod beside;
+mod calls;
 mod check;
 #[cfg(test)]
 mod tests;
 mod texts;
 mod words;
 
-pub use answer::{answer_alone, answer_in_memory, refuse};
+pub use calls::{answer, answer_alone, answer_in_memory, refuse};
 pub use mps_inputs::{Fault, Name, Part, ScheduleFault, fault_line};

@@ -1,9 +1,10 @@
 // Commands over files in memory.
-use crate::{answer_alone, answer_in_memory};
+use crate::{answer, answer_alone, answer_in_memory};
 use mp_outside::{CallKind, MemFiles, MemSink, NoFaultFiles, NoFaultSink};
 use std::alloc::Global;
 use std::test::Fail;
 use std::thread::Threads;
+use worker_gate::HoldGate;
 
 const PARAMETERS: &str =
     "image = ti.dat\nimage_shape = 6 1 1\ncategories = 0 1\ngrid = 4 1 1\nradii = 1 0 0\ntemplate = 2\nmin_replicates = 1\noutput = out.dat\n";
@@ -19,6 +20,10 @@ const REPORT: &str =
 const ONES: &str = "line\n1\nfacies\n1\n1\n1\n1\n1\n1\n";
 
 const TWELVE_ONES: &str = "line\n1\nfacies\n1\n1\n1\n1\n1\n1\n1\n1\n1\n1\n1\n1\n";
+
+// The grid is wide enough that a worker always finds a node to count beside another's.
+const WIDE: &str =
+    "image = ti.dat\nimage_shape = 6 1 1\ncategories = 0 1\ngrid = 100 100 1\nradii = 1 0 0\ntemplate = 2\nmin_replicates = 1\noutput = out.dat\n";
 
 const WELLS: &str = "wells\n4\nX\nY\nZ\nfacies\n0 0 0 1\n1 0 0 0\n2 0 0 1\n";
 
@@ -94,6 +99,38 @@ fn a_run_writes_its_realisation(rt: HostRuntime) -> Result<(), Fail> {
         assert_eq!(rt; ended.out.as_slice(), REPORT.as_bytes());
         assert_eq!(rt; files.get("out.dat").unwrap_or(b""), REALISATION.as_bytes());
     }
+    Ok(())
+}
+
+#[test]
+fn answer_meets(rt: HostRuntime) -> Result<(), Fail> {
+    let mut alone = two_files(rt.alloc(), WIDE, ONES)?;
+    let one = serve(&rt, rt.alloc(), &mut alone, "run", "p1", false)?;
+    assert_eq!(rt; one.status, 0);
+    let mut words = two_words(rt.alloc(), "run", "p1")?;
+    words.push(String::from_str(rt.alloc(), "--workers")?)?;
+    words.push(String::from_str(rt.alloc(), "2")?)?;
+    let mut files = two_files(rt.alloc(), WIDE, ONES)?;
+    let mut out = MemSink::new(rt.alloc());
+    let mut err = MemSink::new(rt.alloc());
+    let gate = HoldGate::new(1_000_000_000);
+    let status = answer(
+        &rt,
+        rt.alloc(),
+        &words,
+        &mut files,
+        &mut out,
+        &mut err,
+        &gate,
+    );
+    assert_eq!(rt; status, 0);
+    assert!(rt; gate.met());
+    assert!(rt; err.bytes().is_empty());
+    assert_eq!(rt; out.bytes(), one.out.as_slice());
+    assert_eq!(rt;
+        files.get("out.dat").unwrap_or(b""),
+        alone.get("out.dat").unwrap_or(b"none")
+    );
     Ok(())
 }
 

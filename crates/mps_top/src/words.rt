@@ -1,15 +1,18 @@
 // The words of a command.
 ghost use Rattle.std.specs.Prelude.{◌≡◌, ◌≤◌, IfSome, length};
-ghost use Rattle.mps_top.specs.Words.{HasLevel, command_of as command_of_words, command_over as command_over_name, is_file as is_file_text, is_name as is_name_text, replay_over as replay_over_names, scan_over as scan_over_words, texts};
+ghost use Rattle.mps_top.specs.Words.{IsInRange, command_of as command_of_words, command_over as command_over_name, command_with as command_with_words, is_file as is_file_text, is_name as is_name_text, is_option as is_option_word, replay_over as replay_over_names, run_with as run_with_words, scan_over as scan_over_words, texts, workers_of};
 
 use mps_inputs::Name;
-use mps_scan::{ScanWords, read_scan_words};
+use mps_scan::{ScanWords, number_up_to, read_scan_words};
+
+// The greatest number of workers.
+const MAX_WORKERS: u8 = 64;
 
 /// A command, with what its words say.
 #[derive(Drop)]
 pub enum Command {
-    /// Simulates, and writes the realisations.
-    Run { parameters: Name },
+    /// Simulates with so many workers, 1 to 64, and writes the realisations.
+    Run { parameters: Name, workers: u8 },
     /// Judges all inputs of a run, and tells what they are.
     Check { parameters: Name },
     /// Tells how often an event has replicates at a level.
@@ -22,7 +25,7 @@ pub enum Command {
 #[tactic(auto, unfolding(crate::specs::Words::command_of))]
 pub fn command_of(words: &[String]) -> Option<Command>
     ensures command { result ≡ command_of_words (texts words.now) }
-    ensures level { IfSome result HasLevel }
+    ensures range { IfSome result IsInRange }
 {
     match words {
         [verb, name] => {
@@ -39,13 +42,13 @@ pub fn command_of(words: &[String]) -> Option<Command>
                 None
             }
         }
-        [verb, name, level, event] => {
+        [verb, name, third, fourth] => {
             if is_file(name.as_bytes()) {
-                scan_over(
+                command_with(
                     verb.as_str(),
                     name.as_str(),
-                    level.as_bytes(),
-                    event.as_bytes(),
+                    third.as_bytes(),
+                    fourth.as_bytes(),
                 )
             } else {
                 None
@@ -55,17 +58,32 @@ pub fn command_of(words: &[String]) -> Option<Command>
     }
 }
 
-// The command of a first word that takes a parameter file, a level and an event.
-fn scan_over(verb: &str, name: &str, level: &[u8], event: &[u8]) -> Option<Command>
+// The command of a first word that takes a parameter file and two more words.
+fn command_with(verb: &str, name: &str, third: &[u8], fourth: &[u8]) -> Option<Command>
     requires { length name.now ≤ 255 }
-    ensures command { result ≡ scan_over_words verb.now name.now level.now event.now }
-    ensures level { IfSome result HasLevel }
+    ensures command { result ≡ command_with_words verb.now name.now third.now fourth.now }
+    ensures range { IfSome result IsInRange }
 {
-    if verb == "scan" {
-        match read_scan_words(level, event) {
-            Some(words) => Some(Command::Scan {
+    if verb == "run" {
+        run_with(name, third, fourth)
+    } else if verb == "scan" {
+        scan_over(name, third, fourth)
+    } else {
+        None
+    }
+}
+
+// `run` with an option and its value.
+fn run_with(name: &str, option: &[u8], value: &[u8]) -> Option<Command>
+    requires { length name.now ≤ 255 }
+    ensures command { result ≡ run_with_words name.now option.now value.now }
+    ensures range { IfSome result IsInRange }
+{
+    if option == b"--workers".as_slice() {
+        match workers_of(value) {
+            Some(workers) => Some(Command::Run {
                 parameters: Name::new(name),
-                words,
+                workers,
             }),
             None => None,
         }
@@ -74,12 +92,36 @@ fn scan_over(verb: &str, name: &str, level: &[u8], event: &[u8]) -> Option<Comma
     }
 }
 
+// How many workers a word of one to four digits asks for, from 1 to 64.
+fn workers_of(word: &[u8]) -> Option<u8>
+    ensures value { result ≡ workers_of word.now }
+    ensures some { IfSome result (λ workers. 1 ≤ workers) }
+    ensures few { IfSome result (λ workers. workers ≤ 64) }
+{
+    number_up_to(word, 4, MAX_WORKERS)
+}
+
+// `scan` with a level and an event.
+fn scan_over(name: &str, level: &[u8], event: &[u8]) -> Option<Command>
+    requires { length name.now ≤ 255 }
+    ensures command { result ≡ scan_over_words name.now level.now event.now }
+    ensures range { IfSome result IsInRange }
+{
+    match read_scan_words(level, event) {
+        Some(words) => Some(Command::Scan {
+            parameters: Name::new(name),
+            words,
+        }),
+        None => None,
+    }
+}
+
 // The command of a first word that takes a parameter file and a schedule.
 fn replay_over(verb: &str, name: &str, schedule: &str) -> Option<Command>
     requires name { length name.now ≤ 255 }
     requires schedule { length schedule.now ≤ 255 }
     ensures command { result ≡ replay_over_names verb.now name.now schedule.now }
-    ensures level { IfSome result HasLevel }
+    ensures range { IfSome result IsInRange }
 {
     if verb == "replay" {
         Some(Command::Replay {
@@ -95,11 +137,12 @@ fn replay_over(verb: &str, name: &str, schedule: &str) -> Option<Command>
 fn command_over(verb: &str, name: &str) -> Option<Command>
     requires { length name.now ≤ 255 }
     ensures command { result ≡ command_over_name verb.now name.now }
-    ensures level { IfSome result HasLevel }
+    ensures range { IfSome result IsInRange }
 {
     if verb == "run" {
         Some(Command::Run {
             parameters: Name::new(name),
+            workers: 1,
         })
     } else if verb == "check" {
         Some(Command::Check {
@@ -114,7 +157,14 @@ fn command_over(verb: &str, name: &str) -> Option<Command>
 fn is_file(word: &[u8]) -> bool
     ensures { result ≡ is_file_text word.now }
 {
-    is_name(word) && word[0] != b'-'
+    is_name(word) && !is_option(word)
+}
+
+// A word that begins with a dash.
+fn is_option(word: &[u8]) -> bool
+    ensures { result ≡ is_option_word word.now }
+{
+    matches!(word, [b'-', ..])
 }
 
 // Up to 255 bytes, each from the space to the tilde.

@@ -2,10 +2,11 @@
 #![tactic(auto)]
 
 use mp_outside::{HostFiles, HostSink};
-use mps_top::{Fault, answer_alone, refuse};
+use mps_top::{Fault, answer, refuse};
 use std::env;
 use std::io::ErrorKind;
 use std::process::ExitCode;
+use worker_gate::OpenGate;
 
 fn main(rt: HostRuntime) -> ExitCode {
     // The files come first: they take the descriptors of standard streams that were closed.
@@ -13,7 +14,15 @@ fn main(rt: HostRuntime) -> ExitCode {
     let mut out = HostSink::new(rt.stdout());
     let mut err = HostSink::new(rt.stderr());
     let status = match words(&rt) {
-        Ok(words) => answer_alone(&rt, rt.alloc(), &words, &mut files, &mut out, &mut err),
+        Ok(words) => answer(
+            &rt,
+            rt.alloc(),
+            &words,
+            &mut files,
+            &mut out,
+            &mut err,
+            &OpenGate,
+        ),
         Err(fault) => refuse(&fault, &mut err),
     };
     ExitCode::from(status)

@@ -1,0 +1,4 @@
+pub mod Settling
+pub mod Draining
+pub mod Telling
+pub mod Showing

@@ -1,0 +1,3 @@
+-- The promise.
+pub mod Bench
+pub mod Told
