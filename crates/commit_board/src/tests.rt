@@ -11,6 +11,7 @@ use mp_base::{Cat, CellId, Counts, Entry, Grid, NoMemory, Shape};
 use path_stream::Words;
 use servo_fraction::Target;
 use std::alloc::Global;
+use std::process::Abort;
 use std::test::Fail;
 use template_order::Template;
 use ti_scan::Eroded;
@@ -183,49 +184,61 @@ struct Case {
     early: u32,
 }
 
-fn case_of(max_data: u8, seen: u32, early: u32) -> Case
-    ensures { result ≡ record { max_data = max_data; seen = seen; early = early } }
-{
-    Case {
-        max_data,
-        seen,
-        early,
-    }
-}
-
 // How many data, which reach and which counts are retained.
 type Expected = (u8, u8, [u32; 2]);
 
-// Whether its offer retains so much, settling it is answered so, and counting the front again retains
-// so much afterwards.
-fn goes(
-    alloc: Global,
-    eroded: &Eroded<'_>,
-    case: &Case,
+// What is seen of it: what its offer retains, what settling it is answered, and what counting the front
+// again retains afterwards.
+#[derive(Drop)]
+struct Course {
     offered: Expected,
     settled: Settle,
     recounted: Expected,
-) -> Result<bool, PlanError>
-    requires cats { eroded.now.cats ≡ 2 }
-    requires data_ { (1 ≤ case.now.max_data) × (case.now.max_data ≤ 64) }
+}
+
+// Whether this is seen of it over a new board.
+fn goes(alloc: Global, case: &Case, course: &Course) -> Result<bool, PlanError>
+    requires { (1 ≤ case.now.max_data) × (case.now.max_data ≤ 64) }
 {
-    let plan = plan_of(alloc, eroded, 5, 2, case.max_data)?;
+    let image = row(alloc, &[0, 0, 1, 1, 0, 1, 0, 0])?;
+    let template = Template::new(alloc, [2, 0, 0], 4)?;
+    let eroded = Eroded::new(alloc, &image, &template, 2)?;
+    let plan = plan_of(alloc, &eroded, 5, 2, case.max_data)?;
     let mut board = Board::new(alloc, &plan, 64)?;
-    commit_up_to(&mut board, &plan, eroded, case.seen);
-    claim_all(&mut board, &plan);
-    let Some(offer) = offer_of_third(&mut board, &plan, eroded, case) else {
-        return Ok(false);
+    Ok(goes_on(&mut board, &plan, &eroded, case, course))
+}
+
+fn goes_on(
+    board: &mut Board,
+    plan: &LevelPlan<'_>,
+    eroded: &Eroded<'_>,
+    case: &Case,
+    course: &Course,
+) -> bool
+    requires fits { Fits plan.now board.old }
+    requires source { plan.now.source ≡ eroded.now }
+{
+    commit_up_to(board, plan, eroded, case.seen);
+    claim_all(board, plan);
+    let Some(offer) = offer_of_third(board, plan, eroded, case) else {
+        return false;
     };
-    if !retains(&offer.retained, offered) {
-        return Ok(false);
+    if !retains(&offer.retained, course.offered) {
+        return false;
     }
     board.keep(offer);
-    commit_up_to(&mut board, &plan, eroded, 3);
-    if board.settle(&plan) != settled || board.front() >= board.length() {
-        return Ok(false);
+    commit_up_to(board, plan, eroded, 3);
+    settles(board, plan, eroded, course)
+}
+
+fn settles(board: &mut Board, plan: &LevelPlan<'_>, eroded: &Eroded<'_>, course: &Course) -> bool
+    requires fits { Fits plan.now board.old }
+    requires source { plan.now.source ≡ eroded.now }
+{
+    if board.settle(plan) != course.settled || board.front() >= board.length() {
+        return false;
     }
-    let retained = board.recount(&plan, eroded);
-    Ok(retains(&retained, recounted))
+    retains(&board.recount(plan, eroded), course.recounted)
 }
 
 fn claim_all(board: &mut Board, plan: &LevelPlan<'_>)
@@ -267,53 +280,28 @@ fn offer_of_third(
 
 #[test]
 fn an_offer_is_stale_by_what_it_misses_up_to_its_reach(rt: HostRuntime) -> Result<(), Fail> {
-    let image = row(rt.alloc(), &[0, 0, 1, 1, 0, 1, 0, 0])?;
-    let template = Template::new(rt.alloc(), [2, 0, 0], 4)?;
-    let eroded = Eroded::new(rt.alloc(), &image, &template, 2)?;
     let here = (1, 3, [0, 2]);
     let far = (1, 4, [0, 2]);
     let near = (1, 1, [0, 2]);
     let (next, next_near) = ((1, 2, [1, 1]), (1, 1, [1, 1]));
-    assert!(rt;
-        goes(
-            rt.alloc(),
-            &eroded,
-            &case_of(64, 2, 4),
-            here,
-            committed(2, 1),
-            next
-        )?
-    );
-    assert!(rt;
-        goes(
-            rt.alloc(),
-            &eroded,
-            &case_of(64, 1, 4),
-            far,
-            stale_third(),
-            here
-        )?
-    );
-    assert!(rt;
-        goes(
-            rt.alloc(),
-            &eroded,
-            &case_of(64, 1, 3),
-            far,
-            stale_third(),
-            here
-        )?
-    );
-    assert!(rt;
-        goes(
-            rt.alloc(),
-            &eroded,
-            &case_of(1, 1, 4),
-            near,
-            committed(2, 1),
-            next_near
-        )?
-    );
+    for (max_data, seen, early, offered, settled, recounted) in [
+        (64, 2, 4, here, committed(2, 1), next),
+        (64, 1, 4, far, stale_third(), here),
+        (64, 1, 3, far, stale_third(), here),
+        (1, 1, 4, near, committed(2, 1), next_near),
+    ] {
+        let case = Case {
+            max_data,
+            seen,
+            early,
+        };
+        let course = Course {
+            offered,
+            settled,
+            recounted,
+        };
+        assert!(rt; goes(rt.alloc(), &case, &course)?);
+    }
     Ok(())
 }
 
@@ -332,6 +320,43 @@ fn retains(retained: &Retained, expected: Expected) -> bool {
         && retained.counts.as_slice() == expected.2.as_slice()
 }
 
+// Two nodes are claimed, and no offer comes.
+fn claims_fill_the_window(rt: &impl Abort, board: &mut Board, plan: &LevelPlan<'_>)
+    requires { Fits plan.now board.old }
+    ensures { Fits plan.now board.new }
+{
+    assert_eq!(rt; board.claim(), Claim::Ticket(Ticket::new(0)));
+    assert_eq!(rt; board.claim(), Claim::Ticket(Ticket::new(1)));
+    assert_eq!(rt; board.claim(), Claim::Full { next: 2, front: 0 });
+    assert_eq!(rt; board.settle(plan), Settle::NotOffered { front: 0 });
+}
+
+// The front is counted again and settled, which makes room for a third claim.
+fn the_front_is_committed(
+    rt: &impl Abort,
+    board: &mut Board,
+    plan: &LevelPlan<'_>,
+    eroded: &Eroded<'_>,
+)
+    requires fits { Fits plan.now board.old }
+    requires source { plan.now.source ≡ eroded.now }
+    ensures fits { Fits plan.now board.new }
+{
+    assert!(rt; board.front() < board.length());
+    let retained = board.recount(plan, eroded);
+    assert!(rt; retains(&retained, (0, 2, [1, 3])));
+    assert_eq!(rt; board.settle(plan), committed(0, 1));
+    assert_eq!(rt; board.claim(), Claim::Ticket(Ticket::new(2)));
+}
+
+// Nothing is left to settle or to claim.
+fn the_path_has_ended(rt: &impl Abort, board: &mut Board, plan: &LevelPlan<'_>)
+    requires { Fits plan.now board.old }
+{
+    assert_eq!(rt; board.settle(plan), Settle::Ended { length: 4 });
+    assert_eq!(rt; board.claim(), Claim::AllClaimed { length: 4 });
+}
+
 #[test]
 fn each_call_of_a_board_answers_by_what_is_claimed_kept_and_committed(
     rt: HostRuntime,
@@ -340,23 +365,36 @@ fn each_call_of_a_board_answers_by_what_is_claimed_kept_and_committed(
     let template = Template::new(rt.alloc(), [1, 0, 0], 2)?;
     let eroded = Eroded::new(rt.alloc(), &image, &template, 2)?;
     let plan = plan_of(rt.alloc(), &eroded, 4, 1, 64)?;
-    assert_eq!(rt; plan.length(), 4);
     let mut board = Board::new(rt.alloc(), &plan, 2)?;
-    assert_eq!(rt; board.claim(), Claim::Ticket(Ticket::new(0)));
-    assert_eq!(rt; board.claim(), Claim::Ticket(Ticket::new(1)));
-    assert_eq!(rt; board.claim(), Claim::Full { next: 2, front: 0 });
-    assert_eq!(rt; board.settle(&plan), Settle::NotOffered { front: 0 });
-    let retained = board.recount(&plan, &eroded);
-    assert!(rt; retains(&retained, (0, 2, [1, 3])));
-    assert_eq!(rt; board.settle(&plan), committed(0, 1));
-    assert_eq!(rt; board.claim(), Claim::Ticket(Ticket::new(2)));
+    claims_fill_the_window(&rt, &mut board, &plan);
+    the_front_is_committed(&rt, &mut board, &plan, &eroded);
     commit_up_to(&mut board, &plan, &eroded, 4);
-    assert_eq!(rt; board.settle(&plan), Settle::Ended { length: 4 });
-    assert_eq!(rt; board.claim(), Claim::AllClaimed { length: 4 });
-    let log = board.into_log();
+    the_path_has_ended(&rt, &mut board, &plan);
     let entries = [entry(0, 1), entry(3, 0), entry(1, 1), entry(2, 1)];
-    assert_eq!(rt; log.as_slice(), entries.as_slice());
+    assert_eq!(rt; board.into_log().as_slice(), entries.as_slice());
     Ok(())
+}
+
+// The first node's offers are kept once, and late after its turn.
+fn offers_of_the_first(
+    rt: &impl Abort,
+    board: &mut Board,
+    plan: &LevelPlan<'_>,
+    eroded: &Eroded<'_>,
+)
+    requires fits { Fits plan.now board.old }
+    requires source { plan.now.source ≡ eroded.now }
+    ensures fits { Fits plan.now board.new }
+{
+    let held = Keep::Held { index: 0 };
+    assert_eq!(rt; kept(board, plan, eroded, 0), Some(Keep::Kept));
+    assert_eq!(rt; kept(board, plan, eroded, 0), Some(held));
+    let late = offer_now(plan, board, eroded, 0);
+    assert_eq!(rt; board.settle(plan), committed(0, 1));
+    let Some(late) = late else {
+        panic!(rt; "no offer");
+    };
+    assert_eq!(rt; board.keep(late), Keep::Late { front: 1 });
 }
 
 #[test]
@@ -367,17 +405,7 @@ fn an_offer_is_kept_once_between_its_claim_and_its_turn(rt: HostRuntime) -> Resu
     let plan = plan_of(rt.alloc(), &eroded, 4, 1, 64)?;
     let mut board = Board::new(rt.alloc(), &plan, 64)?;
     board.claim();
-    assert_eq!(rt; kept(&mut board, &plan, &eroded, 0), Some(Keep::Kept));
-    assert_eq!(rt;
-        kept(&mut board, &plan, &eroded, 0),
-        Some(Keep::Held { index: 0 })
-    );
-    let late = offer_now(&plan, &board, &eroded, 0);
-    assert_eq!(rt; board.settle(&plan), committed(0, 1));
-    let Some(late) = late else {
-        panic!(rt; "no offer");
-    };
-    assert_eq!(rt; board.keep(late), Keep::Late { front: 1 });
+    offers_of_the_first(&rt, &mut board, &plan, &eroded);
     let unclaimed = Keep::Unclaimed { index: 3, next: 1 };
     assert_eq!(rt; kept(&mut board, &plan, &eroded, 3), Some(unclaimed));
     Ok(())
