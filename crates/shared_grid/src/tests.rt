@@ -43,11 +43,10 @@ fn row(alloc: Global) -> Result<Grid, Fail>
 }
 
 // A plan over unknown cells.
-fn plan_of<'a>(alloc: Global, eroded: &'a Eroded<'a>, start: Grid) -> Result<LevelPlan<'a>, Fail>
-    requires cats { eroded.now.cats ≡ 2 }
-    requires nodes { KnowsNodes start 1 }
-    requires below { All (IsBelow 2) start.cells }
+fn plan_of<'a>(alloc: Global, eroded: &'a Eroded<'a>, shape: Shape) -> Result<LevelPlan<'a>, Fail>
+    requires { eroded.now.cats ≡ 2 }
 {
+    let start = blank(alloc, shape)?;
     let target = Target::new(Counts::of(&[5, 3]));
     let words = Words::new(0, 0);
     Ok(LevelPlan::new(alloc, 1, eroded, start, words, target, 0, 2, 64)?)
@@ -131,22 +130,30 @@ fn look_named<N: Naming>(
     Ok(Some(look::<N, Brand>(cells, writer, story)))
 }
 
+// What is found over a story of a plan with this path; nothing where it has another.
+fn found_over(
+    alloc: Global,
+    plan: &LevelPlan<'_>,
+    path: &[u32],
+) -> Result<Option<Found>, NoMemory> {
+    let story = story_of(alloc, plan, &[0, 1, 1, 1, 1])?;
+    if !story
+        .iter()
+        .map(|entry| entry.cell.0)
+        .eq(path.iter().copied())
+    {
+        return Ok(None);
+    }
+    look_named::<Brand>(alloc, plan, story.as_slice())
+}
+
 #[test]
 fn a_pass_may_find_more_than_it_has_seen(rt: HostRuntime) -> Result<(), Fail> {
     let image = row(rt.alloc())?;
     let template = Template::new(rt.alloc(), [2, 0, 0], 4)?;
     let eroded = Eroded::new(rt.alloc(), &image, &template, 2)?;
-    let start = blank(rt.alloc(), Shape::new(5, 1, 1)?)?;
-    let plan = plan_of(rt.alloc(), &eroded, start)?;
-    let story = story_of(rt.alloc(), &plan, &[0, 1, 1, 1, 1])?;
-    let path: [u32; 5] = [1, 0, 4, 2, 3];
-    assert!(rt;
-        story
-            .iter()
-            .map(|entry| entry.cell.0)
-            .eq(path.iter().copied())
-    );
-    let found = look_named::<Brand>(rt.alloc(), &plan, story.as_slice())?;
+    let plan = plan_of(rt.alloc(), &eroded, Shape::new(5, 1, 1)?)?;
+    let found = found_over(rt.alloc(), &plan, &[1, 0, 4, 2, 3])?;
     let expected = Found {
         unseen: None,
         ahead: Some(Cat(1)),
@@ -294,6 +301,20 @@ fn run_named<N: Naming, R: Threads + Sync>(
     run::<N, Brand, R>(rt, alloc, cells, writer, story)
 }
 
+// Whether all goes as the rule says over a story of so many entries.
+fn goes_over<R: Threads + Sync>(
+    rt: &R,
+    alloc: Global,
+    plan: &LevelPlan<'_>,
+    entries: usize,
+) -> Result<bool, NoMemory> {
+    let story = story_of(alloc, plan, &[0, 1, 2, 3, 4, 5, 6])?;
+    if story.len() != entries {
+        return Ok(false);
+    }
+    run_named::<Brand, R>(rt, alloc, plan, story.as_slice())
+}
+
 #[test]
 fn three_threads_read_while_one_publishes_a_hundred_thousand_entries(
     rt: HostRuntime,
@@ -301,10 +322,7 @@ fn three_threads_read_while_one_publishes_a_hundred_thousand_entries(
     let image = row(rt.alloc())?;
     let template = Template::new(rt.alloc(), [2, 0, 0], 4)?;
     let eroded = Eroded::new(rt.alloc(), &image, &template, 2)?;
-    let start = blank(rt.alloc(), Shape::new(400, 250, 1)?)?;
-    let plan = plan_of(rt.alloc(), &eroded, start)?;
-    let story = story_of(rt.alloc(), &plan, &[0, 1, 2, 3, 4, 5, 6])?;
-    assert_eq!(rt; story.len(), 100_000);
-    assert!(rt; run_named::<Brand, HostRuntime>(&rt, rt.alloc(), &plan, story.as_slice())?);
+    let plan = plan_of(rt.alloc(), &eroded, Shape::new(400, 250, 1)?)?;
+    assert!(rt; goes_over(&rt, rt.alloc(), &plan, 100_000)?);
     Ok(())
 }
