@@ -5,11 +5,12 @@ ghost use Rattle.event_retrieve.specs.Plan.{KnowsNodes};
 use crate::Step::{Claim, Count, Force, Front, Look, Offer, Settle, Show};
 use crate::{Answer, Schedule, Step, Steps, run_schedule};
 use commit_board::Settle as Settled;
-use event_retrieve::LevelPlan;
+use event_retrieve::{LevelPlan, PlanError};
 use mp_base::{Cat, CellId, Counts, Grid, NoMemory, Shape};
 use path_stream::Words;
 use servo_fraction::Target;
 use std::alloc::Global;
+use std::process::Abort;
 use std::test::Fail;
 use template_order::Template;
 use ti_scan::Eroded;
@@ -78,26 +79,41 @@ fn has_missed(answer: &Answer) -> bool {
     )
 }
 
-#[test]
-fn a_guess_that_missed_an_entry_is_counted_again(rt: HostRuntime) -> Result<(), Fail> {
-    let alloc = rt.alloc();
-    let image = row(alloc, &[0, 1, 1, 0, 1, 1])?;
-    let template = Template::new(alloc, [1, 0, 0], 2)?;
-    let eroded = Eroded::new(alloc, &image, &template, 2)?;
-    let target = Target::new(Counts::of(&[2, 4]));
+// A plan over a row of four unknown cells, by the words of the seed 0 and the stream 0.
+fn plan_of<'a>(alloc: Global, eroded: &'a Eroded<'a>) -> Result<LevelPlan<'a>, PlanError>
+    requires { eroded.now.cats ≡ 2 }
+    ensures source { IfOk result (λ p. p.source ≡ eroded.now) }
+{
     let start = blank(alloc, 4)?;
-    let words = Words::new(0, 0);
-    let plan = LevelPlan::new(alloc, 1, &eroded, start, words, target, 0, 1, 64)?;
-    let schedule = Schedule {
+    let target = Target::new(Counts::of(&[2, 4]));
+    LevelPlan::new(alloc, 1, eroded, start, Words::new(0, 0), target, 0, 1, 64)
+}
+
+fn schedule(alloc: Global) -> Result<Schedule, NoMemory>
+    ensures { IfOk result (λ s. s.workers ≡ 3) }
+{
+    Ok(Schedule {
         realisation: 0,
         level: 1,
         workers: 3,
         steps: Steps::new(Vec::from_array(alloc, STEPS)?),
-    };
-    let (answers, world) = run_schedule(alloc, &plan, &eroded, &schedule, 64)?;
+    })
+}
+
+// What the last count of the guess is answered, and which entries are committed at the end.
+fn goes_by_the_steps(
+    rt: &impl Abort,
+    alloc: Global,
+    plan: &LevelPlan<'_>,
+    eroded: &Eroded<'_>,
+) -> Result<(), Fail>
+    requires { plan.now.source ≡ eroded.now }
+{
+    let schedule = schedule(alloc)?;
+    let (answers, world) = run_schedule(alloc, plan, eroded, &schedule, 64)?;
     assert!(rt; answers.get(14).is_some_and(has_missed));
     assert!(rt; world.log().len() == 3);
-    let log = world.finish(&plan, &eroded);
+    let log = world.finish(plan, eroded);
     let entries = [(0, 1), (3, 0), (1, 1), (2, 1)];
     assert!(rt;
         log.iter()
@@ -105,4 +121,13 @@ fn a_guess_that_missed_an_entry_is_counted_again(rt: HostRuntime) -> Result<(), 
             .eq(entries)
     );
     Ok(())
+}
+
+#[test]
+fn a_guess_that_missed_an_entry_is_counted_again(rt: HostRuntime) -> Result<(), Fail> {
+    let image = row(rt.alloc(), &[0, 1, 1, 0, 1, 1])?;
+    let template = Template::new(rt.alloc(), [1, 0, 0], 2)?;
+    let eroded = Eroded::new(rt.alloc(), &image, &template, 2)?;
+    let plan = plan_of(rt.alloc(), &eroded)?;
+    goes_by_the_steps(&rt, rt.alloc(), &plan, &eroded)
 }
