@@ -4,8 +4,8 @@
 ghost use Rattle.std.specs.Prelude.{◌<◌, All, IfOk};
 ghost use Rattle.mp_base.specs.Grid.{IsBelow};
 
-use crate::tests::setup_over;
-use crate::{OneThread, StoreKind, run_realisation};
+use crate::StoreKind;
+use crate::tests::{realised_by, setup_over};
 use mp_base::{Cat, CellId, Grid, NoMemory, Shape, Vector};
 use path_stream::Words;
 use std::alloc::{AllocError, Global};
@@ -189,8 +189,7 @@ fn a_realisation_equals_a_plain_recount(rt: HostRuntime) -> Result<(), Fail> {
     let hard = Grid::unknown(rt.alloc(), Shape::new(GRID_SIDE, GRID_SIDE, 1)?)?;
     let setup = setup_over(image, template, hard, 1, MIN_REPLICATES, SEED);
     let recounted = recounted(rt.alloc(), setup.template.vectors())?;
-    let mut runner = OneThread::new(&rt, StoreKind::Scan);
-    let realisation = run_realisation(rt.alloc(), &setup, 0, &mut runner)?;
+    let realisation = realised_by(&rt, rt.alloc(), &setup, 0, StoreKind::Scan)?;
     assert_eq!(rt; realisation.shape().cells() as usize, recounted.len());
     let mut categories = [0u32; 2];
     for (number, expected) in recounted.iter().enumerate() {
