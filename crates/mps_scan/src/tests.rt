@@ -3,9 +3,10 @@ use crate::coded::CodedDatum;
 use crate::fit::fitting_event;
 use crate::{read_scan_words, scan};
 use arrayvec::ArrayVec;
-use mp_base::{Cat, CodeList};
+use mp_base::{Cat, CodeList, NoMemory};
 use mp_outside::{MemFiles, MemSink};
 use mps_inputs::Name;
+use std::alloc::Global;
 use std::test::Fail;
 use ti_scan::Datum;
 
@@ -123,33 +124,47 @@ const SIX_CELLS: &str =
 const EIGHT_CELLS: &str =
     "image = t8.dat\nimage_shape = 8 1 1\ncategories = 0 1\ngrid = 5 1 1\nradii = 2 0 0\ntemplate = 4\nmin_replicates = 2\noutput = out.dat\n";
 
+// Whether a scan over files of these bytes tells this text of an event at the level 1.
+fn tells(
+    alloc: Global,
+    parameters: &str,
+    image: (&str, &[u8]),
+    event: &str,
+    text: &str,
+) -> Result<bool, NoMemory> {
+    let mut files = MemFiles::new(alloc);
+    files.put("p", parameters.as_bytes())?;
+    files.put(image.0, image.1)?;
+    let Some(words) = read_scan_words(b"1", event.as_bytes()) else {
+        return Ok(false);
+    };
+    let mut out = MemSink::new(alloc);
+    let answer = scan(alloc, &mut files, &mut out, &Name::new("p"), &words);
+    Ok(answer.is_ok() && out.bytes() == text.as_bytes())
+}
+
 #[test]
 fn a_scan_tells_the_replicates_of_an_event(rt: HostRuntime) -> Result<(), Fail> {
-    let mut files = MemFiles::new(rt.alloc());
-    files.put("p6", SIX_CELLS.as_bytes())?;
-    files.put("t6.dat", b"line\n1\nfacies\n0\n1\n1\n0\n1\n1\n")?;
-    files.put("p8", EIGHT_CELLS.as_bytes())?;
-    files.put("t8.dat", b"line\n1\nfacies\n0\n0\n1\n1\n0\n1\n0\n0\n")?;
-    for (name, event, text) in [
+    let six = b"line\n1\nfacies\n0\n1\n1\n0\n1\n1\n".as_slice();
+    let eight = b"line\n1\nfacies\n0\n0\n1\n1\n0\n1\n0\n0\n".as_slice();
+    for (parameters, image, event, text) in [
         (
-            "p6",
+            SIX_CELLS,
+            ("t6.dat", six),
             "1=1",
             "store tree 6\nprefix 0 counts 1 3\nprefix 1 counts 1 1\nretained 1 reach 2 counts 1 1\n",
         ),
         (
-            "p8",
+            EIGHT_CELLS,
+            ("t8.dat", eight),
             "1=0,3=1",
             "store tree 15\nprefix 0 counts 1 3\nprefix 1 counts 0 2\nprefix 2 counts 0 1\nretained 1 reach 3 counts 0 2\n",
         ),
     ] {
-        assert!(rt; name.len() <= 255);
-        let Some(words) = read_scan_words(b"1", event.as_bytes()) else {
-            panic!(rt; "no words of {event}");
-        };
-        let mut out = MemSink::new(rt.alloc());
-        let answer = scan(rt.alloc(), &mut files, &mut out, &Name::new(name), &words);
-        assert!(rt; answer.is_ok(), "of {event}");
-        assert_eq!(rt; out.bytes(), text.as_bytes());
+        assert!(rt;
+            tells(rt.alloc(), parameters, image, event, text)?,
+            "of {event}"
+        );
     }
     Ok(())
 }
