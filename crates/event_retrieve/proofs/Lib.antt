@@ -13,3 +13,4 @@ pub mod Fresh
 pub mod Between
 pub mod Gathered
 pub mod Below
+pub mod WantedCells

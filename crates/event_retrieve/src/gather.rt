@@ -11,6 +11,7 @@ use crate::known::{cell_at_position, push_found};
 use crate::offer::Offer;
 use crate::plan::LevelPlan;
 use crate::retrieval::retain;
+use crate::wanted::is_early;
 use mp_base::{Cat, CellId};
 use std::marker::Model;
 use ti_scan::{CountStore, Event};
@@ -78,9 +79,8 @@ impl Gather {
         self.wanted_at(plan, cell)
     }
 
-    /// What is wanted at the next position, by the cell there: `wanted` for a caller who has it at
-    /// hand.
-    pub fn wanted_at(&self, plan: &LevelPlan<'_>, cell: Option<CellId>) -> Wanted
+    // What is wanted at the next position, by the cell there.
+    fn wanted_at(&self, plan: &LevelPlan<'_>, cell: Option<CellId>) -> Wanted
         requires index { self.now.index < length plan.now.path }
         requires cell { cell ≡ cell_there plan.now self.now.index self.now.position }
         ensures wanted { result ≡ wanted_of plan.now self.now }
@@ -143,18 +143,5 @@ impl Gather {
         ensures before { IsEvent (self.now.position - 1) self.now.event }
     {
         &self.event
-    }
-}
-
-// Whether a cell is known at the start or its turn comes before the node's. A cell that has a turn
-// is unknown at the start.
-fn is_early(plan: &LevelPlan<'_>, index: u32, cell: CellId) -> bool
-    requires cell { cell < cells_of plan.now.start.sides }
-    ensures { result ≡ early plan.now index cell }
-{
-    let start = plan.start();
-    match plan.rank_of(cell) {
-        Some(rank) => rank < index,
-        None => start.get(cell).is_some(),
     }
 }

@@ -12,6 +12,7 @@ mod retrieval;
 mod shared;
 #[cfg(test)]
 mod tests;
+mod wanted;
 
 pub use around::{Centre, Surroundings};
 pub use drawing::{draw, pick_with};
@@ -20,3 +21,4 @@ pub use known::{cat_after, event_on, known_event};
 pub use offer::{Missed, Offer};
 pub use plan::{LevelPlan, PlanError};
 pub use retrieval::{Retained, retain};
+pub use wanted::wanted_cells;

@@ -14,7 +14,7 @@ use ti_scan::Eroded;
 
 /// Builds and keeps the trees of all levels, as many at once as there are threads. Where memory runs
 /// out, or where enough is kept, fewer are.
-pub fn keep_levels<R: Threads + Sync>(
+pub(crate) fn keep_levels<R: Threads + Sync>(
     rt: &R,
     alloc: Global,
     setup: &Setup,

@@ -1,4 +1,6 @@
+pub mod Numbers
 pub mod Settling
 pub mod Draining
 pub mod Telling
 pub mod Showing
+pub mod Early

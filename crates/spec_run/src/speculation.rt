@@ -1,11 +1,13 @@
 // Counting ahead.
-ghost use Rattle.std.specs.Prelude.{◌≡◌, ◌+◌, ◌<◌, ◌≤◌, length};
-ghost use Rattle.event_retrieve.specs.Gather.{LiesBetween, MayBeRead, MayPut, IfCell, wanted_of};
-ghost use Rattle.event_retrieve.specs.Plan.{cell_at_position, nodes_in};
+ghost use Rattle.std.specs.Prelude.{◌≡◌, ◌+◌, ◌<◌, ◌≤◌, IfSome, None, length};
+ghost use Rattle.mp_base.specs.Grid.{cells_of};
+ghost use Rattle.event_retrieve.specs.Gather.{LiesBetween};
+ghost use Rattle.event_retrieve.specs.Plan.{nodes_in};
 ghost use Rattle.event_retrieve.specs.Sequential.{sequential};
+ghost use Rattle.shared_grid.specs.Reads.{ShowsSince};
 ghost use Rattle.spec_run.specs.Told.{IsAround};
 
-use event_retrieve::{Gather, LevelPlan, Offer, Surroundings, Wanted};
+use event_retrieve::{Gather, LevelPlan, Offer, Surroundings, wanted_cells};
 use mp_base::{Cat, CellId};
 use shared_grid::{Naming, Reader, SharedGrid, Site};
 
@@ -36,39 +38,31 @@ pub(crate) fn gather_event<N: Naming, T: Site>(
     ensures done { result.position ≡ length plan.now.source.template + 1 }
     ensures between { LiesBetween plan.now pass.old result }
 {
-    let positions = plan.template_len();
+    let _ = plan.length();
     let centre = around.centre(plan.cell_of(index));
+    let cells = wanted_cells(plan, &centre, index);
     let mut gather = Gather::new(index);
-    for number in 0..positions {
-        let cell = centre.cell_at(number as usize);
-        let value = look(plan, grid, pass, &gather, cell);
+    for cell in cells.iter() {
+        let value = look(plan, grid, pass, *cell);
         gather.put(plan, value);
     }
     gather
 }
 
-// The value that is wanted next, by the cell there, if there is one by now.
+// The value that is wanted next: that of the cell which is wanted, if one is and has a value by now.
 fn look<N: Naming, T: Site>(
     plan: &LevelPlan<'_>,
     grid: &SharedGrid<N, T>,
     pass: &mut Reader<N, T>,
-    gather: &Gather,
     cell: Option<CellId>,
 ) -> Option<Cat>
     requires plan { plan.now ≡ N.plan }
     requires story { N.story ≡ sequential N.plan }
-    requires index { gather.now.index < nodes_in plan.now }
-    requires left { gather.now.position ≤ length plan.now.source.template }
-    requires seen { pass.old ≤ gather.now.index }
-    requires cell { cell ≡ cell_at_position plan.now gather.now.index gather.now.position }
+    requires inside { IfSome cell (λ c. c < cells_of plan.now.start.sides) }
     ensures same { pass.new ≡ pass.old }
-    ensures may { MayPut (wanted_of plan.now gather.now) result }
-    ensures read { IfCell (wanted_of plan.now gather.now) (λ c. MayBeRead plan.now pass.old gather.now.index c result) }
+    ensures none { cell ≡ None → result ≡ None }
+    ensures read { IfSome cell (λ c. ShowsSince plan.now (sequential plan.now) pass.old c result) }
 {
     let _ = plan.length();
-    match gather.wanted_at(plan, cell) {
-        Wanted::Cell { position: _, cell } => grid.read(pass, cell),
-        Wanted::Outside { .. } | Wanted::Later { .. } => None,
-        Wanted::Done => unreachable!(),
-    }
+    grid.read(pass, cell?)
 }

@@ -1,5 +1,5 @@
 // Workers, and the run of a level by them.
-ghost use Rattle.std.specs.Prelude.{◌≡◌, ◌<◌, ◌≤◌, All, IfOk};
+ghost use Rattle.std.specs.Prelude.{◌≡◌, ◌<◌, ◌≤◌, All, IfOk, map};
 ghost use Rattle.mp_base.specs.declared.cell.Entry.{Entry as AnEntry};
 ghost use Rattle.ti_scan.specs.Event.{StandsFor};
 ghost use Rattle.event_retrieve.specs.Plan.{nodes_in};
@@ -31,6 +31,7 @@ pub fn run_workers<N: Naming, T: Site, S: CountStore + Sync, G: Gate, R: Threads
 )
     requires store { StandsFor S.gives S.reaches store.now sim.now.source }
     ensures seen { All (λ h. nodes_in sim.now ≤ h.pass) helpers.new }
+    ensures numbers { map (λ (h : _). h.number) helpers.new ≡ map (λ (h : _). h.number) helpers.old }
 {
     let count = helpers.len();
     if count == 0 {
@@ -42,7 +43,8 @@ pub fn run_workers<N: Naming, T: Site, S: CountStore + Sync, G: Gate, R: Threads
         count,
         &|_, helper: &mut Helper<N, T>|
             requires { StandsFor S.gives S.reaches store.now sim.now.source }
-            ensures { nodes_in sim.entry.now ≤ helper.exit.now.pass }
+            ensures seen { nodes_in sim.entry.now ≤ helper.exit.now.pass }
+            ensures number { helper.exit.now.number ≡ helper.entry.now.number }
         { work(rt, sim, helper, store, gate) },
     );
 }
@@ -58,6 +60,7 @@ fn work<N: Naming, T: Site, S: CountStore, G: Gate, R: Wait>(
 )
     requires store { StandsFor S.gives S.reaches store.now sim.now.source }
     ensures seen { nodes_in sim.now ≤ helper.new.pass }
+    ensures number { helper.new.number ≡ helper.old.number }
 {
     for _ in rt.forever() {
         match sim.claim(rt, &mut helper.pass) {
@@ -85,6 +88,7 @@ fn count_ahead<N: Naming, T: Site, S: CountStore, G: Gate, R: Wait>(
 )
     requires store { StandsFor S.gives S.reaches store.now sim.now.source }
     requires ticket { ticket.now.index < nodes_in sim.now }
+    ensures number { helper.new.number ≡ helper.old.number }
 {
     gate.at(helper.number, Place::Claimed, ticket.index());
     let spec = sim.speculate(&mut helper.pass, ticket, store);
@@ -103,6 +107,7 @@ fn push_to_end<N: Naming, T: Site, S: CountStore, R: Wait>(
 )
     requires store { StandsFor S.gives S.reaches store.now sim.now.source }
     ensures seen { nodes_in sim.now ≤ helper.new.pass }
+    ensures number { helper.new.number ≡ helper.old.number }
 {
     for _ in rt.forever() {
         if let Pushed::Ended { .. } = sim.push_front(rt, &mut helper.pass, store) {
