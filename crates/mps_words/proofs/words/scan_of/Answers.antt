@@ -1,0 +1,17 @@
+use Rattle.std.proofs.Common.{◌∙◌, Some, None}
+use Rattle.mps_words.specs.Forms.{scan_app}
+use Rattle.mps_words.specs.Words.{texts}
+use Rattle.mps_words.proofs.Reading.{are_texts, finds_at, scan_found, scan_same}
+use Rattle.mps_words.proofs.words.scan_of.Goals as goal
+
+pub returns-in-Some-clause-command : goal.returns-in-Some-clause-command
+returns-in-Some-clause-command c =
+    let words = c.args.words.now in
+    let finds = finds_at scan_app _ (texts words) c.in_ok-found.field-0 (Some c.in-Some.found) c.in_ok-scan_form.ensures c.in-Some.is c.in_ok-found.ensures in
+    c.scan_over.ensures.command ∙ scan_found words c.in-Some.found c.get_str.result c.get_str-in-Some.result c.get_str-in-Some-2.result finds c.get_str.ensures c.get_str-in-Some.ensures c.get_str-in-Some-2.ensures
+
+pub returns-in-None-clause-command : goal.returns-in-None-clause-command
+returns-in-None-clause-command c =
+    let words = c.args.words.now in
+    let finds = finds_at scan_app _ (texts words) c.in_ok-found.field-0 None c.in_ok-scan_form.ensures c.in-None.is c.in_ok-found.ensures in
+    (scan_same (texts words) (are_texts words)).0 finds
