@@ -5,4 +5,4 @@ mod realisations;
 mod texts;
 mod writing;
 
-pub use writing::write_run;
+pub use writing::{facts_of, tell_report, write_run};

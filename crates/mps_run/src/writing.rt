@@ -42,8 +42,8 @@ pub fn write_run<R: LevelRunner, F: Files, O: Sink>(
     tell_report(alloc, out, &facts_of(judged, counts))
 }
 
-// Tells the report on `out`.
-fn tell_report<O: Sink>(alloc: Global, out: &mut O, facts: &Report) -> Result<(), Fault>
+/// Tells the report of a run on `out`.
+pub fn tell_report<O: Sink>(alloc: Global, out: &mut O, facts: &Report) -> Result<(), Fault>
     ensures written { Reported (report_text_of facts.now) (O.seen out.old) (O.seen out.new) result }
     ensures cause { IfErr result (IsReportFault (O.seen out.old) (O.seen out.new)) }
 {
@@ -54,8 +54,8 @@ fn tell_report<O: Sink>(alloc: Global, out: &mut O, facts: &Report) -> Result<()
     report(out, &text)
 }
 
-// What the report tells.
-fn facts_of(judged: Judged, counts: Vec<Counts>) -> Report
+/// What the report of judged inputs tells, by the counts of their realisations' cells.
+pub fn facts_of(judged: Judged, counts: Vec<Counts>) -> Report
     ensures { IsReport judged counts.items result }
 {
     let Judged {
