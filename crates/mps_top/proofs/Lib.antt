@@ -1,4 +1,4 @@
+pub mod Naming
 pub mod Serving
 pub mod Known
 pub mod Outcomes
-pub mod Commands

@@ -9,10 +9,10 @@ use Rattle.mps_inputs.specs.Done.{Done}
 use Rattle.mps_top.specs.Outcome.{outcome_for, outcome_of}
 use Rattle.mp_outside.specs.Seen.{FilesSeen, SinkSeen}
 use Rattle.mps_inputs.specs.Status.{status_of, status_of_fault}
-use Rattle.mps_top.specs.Words.{command_of}
+use Rattle.mps_words.specs.Words.{command_of}
 use Rattle.mps_inputs.specs.declared.fault.Fault.{Fault}
 use Rattle.mps_inputs.specs.declared.fault.Fault.TheVariants.{Usage, CannotRead, CannotWrite, OutOfMemory, CannotReport}
-use Rattle.mps_top.specs.declared.words.Command.{Command}
+use Rattle.mps_words.specs.declared.words.Command.{Command}
 
 -- the outcome of a command, if there is one
 abbrev told_outcome : Option Command → Held → Result Done Fault

@@ -1,4 +1,3 @@
--- The promise: the words of a command, and what it comes to.
-pub mod Words
+-- The promise: what a command comes to.
 pub mod Outcome
 pub mod Texts

@@ -1,22 +1,23 @@
 // The top calls.
-ghost use Rattle.std.specs.Prelude.{◌≡◌, ◌⊎◌, ℕ, List, None, Err};
+ghost use Rattle.std.specs.Prelude.{◌≡◌, ◌⊎◌, ℕ, List, None, Err, false};
 ghost use Rattle.mp_outside.specs.NoFault.{content, sink_bytes};
 ghost use Rattle.mp_outside.specs.Seen.{ReadFailed, SinkFailed, WriteFailed};
 ghost use Rattle.mps_inputs.specs.Answers.{Ends, IsAnswer, IsDone, IsTold, IsUsage, Serves, seen};
 ghost use Rattle.mps_inputs.specs.Inputs.{IsInputs};
 ghost use Rattle.mps_inputs.specs.Status.{status_of, status_of_fault};
 ghost use Rattle.mps_run.specs.Outcome.{run_of};
+ghost use Rattle.mps_words.specs.Words.{IsInRange, command_of as command_of_words, names_a_command, texts};
 ghost use Rattle.mps_top.specs.Outcome.{outcome_for, outcome_of, run_outcome};
-ghost use Rattle.mps_top.specs.Words.{IsInRange, command_of as command_of_words, texts};
 
 use crate::beside::run_beside;
 use crate::check::check;
-use crate::words::{Command, command_of};
 use mp_outside::{Files, NoFaultFiles, NoFaultSink, Sink};
+use mps_demo::demo;
 use mps_inputs::{Fault, Inputs, Name, fault_line, fault_status, judge, read_inputs, status};
 use mps_replay::replay;
 use mps_run::write_run;
 use mps_scan::scan;
+use mps_words::{Command, command_of};
 use seq_engine::{OneThread, StoreKind};
 use std::alloc::Global;
 use std::sync::Wait;
@@ -38,7 +39,8 @@ pub fn answer<R: Threads + Wait + Sync, F: Files, O: Sink, E: Sink, G: Gate>(
 ) -> u8
     ensures answer { IsAnswer (outcome_of (texts words.now)) (F.seen files.old) (O.seen out.old) (E.seen err.old) (F.seen files.new) (O.seen out.new) (E.seen err.new) result }
     ensures usage { result ≡ 1 → IsUsage (outcome_of (texts words.now)) (F.seen files.old) }
-    ensures no_command { command_of_words (texts words.now) ≡ None → result ≡ 1 }
+    ensures no_command { command_of_words (texts words.now) ≡ None → (result ≡ 1) ⊎ (result ≡ 8) }
+    ensures no_name { names_a_command (texts words.now) ≡ false → result ≡ 1 }
     ensures read_cause { result ≡ 3 → (name : List ℕ) × ReadFailed name (F.seen files.old) (F.seen files.new) }
     ensures write_cause { result ≡ 4 → (name : List ℕ) × WriteFailed name (F.seen files.old) (F.seen files.new) }
     ensures report_cause { result ≡ 9 → SinkFailed (O.seen out.old) (O.seen out.new) }
@@ -66,7 +68,8 @@ pub fn answer_alone<R: Threads, F: Files, O: Sink, E: Sink>(
 ) -> u8
     ensures answer { IsAnswer (outcome_of (texts words.now)) (F.seen files.old) (O.seen out.old) (E.seen err.old) (F.seen files.new) (O.seen out.new) (E.seen err.new) result }
     ensures usage { result ≡ 1 → IsUsage (outcome_of (texts words.now)) (F.seen files.old) }
-    ensures no_command { command_of_words (texts words.now) ≡ None → result ≡ 1 }
+    ensures no_command { command_of_words (texts words.now) ≡ None → (result ≡ 1) ⊎ (result ≡ 8) }
+    ensures no_name { names_a_command (texts words.now) ≡ false → result ≡ 1 }
     ensures read_cause { result ≡ 3 → (name : List ℕ) × ReadFailed name (F.seen files.old) (F.seen files.new) }
     ensures write_cause { result ≡ 4 → (name : List ℕ) × WriteFailed name (F.seen files.old) (F.seen files.new) }
     ensures report_cause { result ≡ 9 → SinkFailed (O.seen out.old) (O.seen out.new) }
@@ -103,10 +106,11 @@ fn serve_beside<R: Threads + Wait + Sync, F: Files, O: Sink, G: Gate>(
     out: &mut O,
     gate: &G,
 ) -> Result<(), Fault>
-    ensures usage { command_of_words (texts words.now) ≡ None → result ≡ Err Fault.Usage }
+    ensures no_command { command_of_words (texts words.now) ≡ None → (result ≡ Err Fault.Usage) ⊎ (result ≡ Err Fault.OutOfMemory) }
+    ensures no_name { names_a_command (texts words.now) ≡ false → result ≡ Err Fault.Usage }
     ensures serves { Serves (outcome_of (texts words.now)) (seen (F.seen files.old) (O.seen out.old)) (seen (F.seen files.new) (O.seen out.new)) result }
 {
-    match command_of(words) {
+    match command_of(alloc, words)? {
         Some(command) => serve_command_beside(rt, alloc, &command, files, out, gate),
         None => Err(Fault::Usage),
     }
@@ -141,10 +145,11 @@ fn serve<R: Threads, F: Files, O: Sink>(
     files: &mut F,
     out: &mut O,
 ) -> Result<(), Fault>
-    ensures usage { command_of_words (texts words.now) ≡ None → result ≡ Err Fault.Usage }
+    ensures no_command { command_of_words (texts words.now) ≡ None → (result ≡ Err Fault.Usage) ⊎ (result ≡ Err Fault.OutOfMemory) }
+    ensures no_name { names_a_command (texts words.now) ≡ false → result ≡ Err Fault.Usage }
     ensures serves { Serves (outcome_of (texts words.now)) (seen (F.seen files.old) (O.seen out.old)) (seen (F.seen files.new) (O.seen out.new)) result }
 {
-    match command_of(words) {
+    match command_of(alloc, words)? {
         Some(command) => serve_command(rt, alloc, &command, files, out),
         None => Err(Fault::Usage),
     }
@@ -169,6 +174,7 @@ fn serve_command<R: Threads, F: Files, O: Sink>(
             parameters,
             schedule,
         } => replay(rt, alloc, files, out, parameters, schedule),
+        Command::Demo { seed } => demo(rt, alloc, out, *seed),
     }
 }
 

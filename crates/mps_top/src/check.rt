@@ -4,7 +4,7 @@ ghost use Rattle.mp_outside.specs.Seen.{FilesSeen};
 ghost use Rattle.mps_inputs.specs.Answers.{Ends, IsRefusal, Serves, seen};
 ghost use Rattle.mps_inputs.specs.Inputs.{IsInputs};
 ghost use Rattle.mps_top.specs.Outcome.{check_of, outcome_for};
-ghost use Rattle.mps_top.specs.declared.words.Command.TheVariants.{Check};
+ghost use Rattle.mps_words.specs.declared.words.Command.TheVariants.{Check};
 
 use crate::texts::check_text;
 use mp_outside::{Files, Sink};

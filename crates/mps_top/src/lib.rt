@@ -8,7 +8,6 @@ mod check;
 #[cfg(test)]
 mod tests;
 mod texts;
-mod words;
 
 pub use calls::{answer, answer_alone, answer_in_memory, refuse};
 pub use mps_inputs::{Fault, Name, Part, ScheduleFault, fault_line};

@@ -1,10 +1,25 @@
 // Commands over files in memory.
+ghost use Rattle.std.specs.Prelude.{◌≡◌, ◌<◌, All, IfOk};
+ghost use Rattle.std.specs.Thread.{IsSync};
+ghost use Rattle.mp_base.specs.declared.cell.Entry.{Entry as EntryOf};
+ghost use Rattle.ti_scan.specs.Event.{StandsFor};
+ghost use Rattle.event_retrieve.specs.Sequential.{sequential};
+ghost use Rattle.seq_engine.specs.Setup.{IsSetup};
+ghost use Rattle.seq_engine.specs.Store.{store_counts, store_reach};
+
 use crate::{answer, answer_alone, answer_in_memory};
+use event_retrieve::LevelPlan;
+use mp_base::{Entry, Grid, NoMemory};
 use mp_outside::{CallKind, MemFiles, MemSink, NoFaultFiles, NoFaultSink};
+use mps_demo::draw_inputs;
+use mps_inputs::judge;
+use seq_engine::{OneThread, Setup, Store, StoreKind, Stores, run_realisation};
+use spec_run::{Workers, run_level_by};
 use std::alloc::Global;
+use std::sync::Wait;
 use std::test::Fail;
 use std::thread::Threads;
-use worker_gate::HoldGate;
+use worker_gate::{HoldGate, OpenGate};
 
 const PARAMETERS: &str =
     "image = ti.dat\nimage_shape = 6 1 1\ncategories = 0 1\ngrid = 4 1 1\nradii = 1 0 0\ntemplate = 2\nmin_replicates = 1\noutput = out.dat\n";
@@ -131,6 +146,52 @@ fn answer_meets(rt: HostRuntime) -> Result<(), Fail> {
         files.get("out.dat").unwrap_or(b""),
         alone.get("out.dat").unwrap_or(b"none")
     );
+    Ok(())
+}
+
+// The simulation that `demo 7` runs. No level of it has too few positions.
+fn demo_setup(alloc: Global) -> Result<Setup, NoMemory>
+    ensures { IfOk result IsSetup }
+{
+    let inputs = draw_inputs(alloc, 7)?;
+    match judge(alloc, inputs) {
+        Ok(judged) => Ok(judged.setup),
+        Err(_) => Err(NoMemory),
+    }
+}
+
+// Realisation 0 by one thread.
+fn by_one<R: Threads>(rt: &R, alloc: Global, setup: &Setup) -> Result<Grid, NoMemory>
+    requires { IsSetup setup.now }
+{
+    let mut runner = OneThread::new(rt, StoreKind::Tree);
+    run_realisation(alloc, setup, 0, &mut runner).map_err(|_| NoMemory)
+}
+
+// Realisation 0 by four workers.
+fn by_four<R: Threads + Wait + Sync>(rt: &R, alloc: Global, setup: &Setup) -> Result<Grid, NoMemory>
+    requires { IsSetup setup.now }
+{
+    let simulate = |alloc: Global, plan: &LevelPlan<'_>, store: Store<'_>| -> Result<
+        Vec<Entry>,
+        NoMemory,
+    >
+        requires threads { IsSync R.row }
+        requires store { StandsFor store_counts store_reach store plan.now.source }
+        ensures log { IfOk result (λ log. log.items ≡ sequential plan.now) }
+        ensures cats { IfOk result (λ log. All (λ (e : EntryOf). e.cat < plan.now.source.cats) log.items) }
+    { run_level_by(rt, alloc, plan, &store, &OpenGate, 4, 64) };
+    let mut runner = Workers::new(Stores::new(StoreKind::Tree), simulate);
+    run_realisation(alloc, setup, 0, &mut runner).map_err(|_| NoMemory)
+}
+
+#[test]
+fn four_workers_give_the_grid_of_one_thread(rt: HostRuntime) -> Result<(), Fail> {
+    let setup = demo_setup(rt.alloc())?;
+    let one = by_one(&rt, rt.alloc(), &setup)?;
+    let four = by_four(&rt, rt.alloc(), &setup)?;
+    assert_eq!(rt; one.shape().cells(), 10_000);
+    assert_eq!(rt; four.as_bytes(), one.as_bytes());
     Ok(())
 }
 
@@ -333,11 +394,34 @@ fn a_refused_line_of_parameters_is_told(rt: HostRuntime) -> Result<(), Fail> {
 #[test]
 fn words_that_are_no_command_are_refused(rt: HostRuntime) -> Result<(), Fail> {
     let mut files = two_files(rt.alloc(), PARAMETERS, IMAGE)?;
-    for (verb, name) in [("run", "--fast"), ("walk", "p1"), ("check", "")] {
+    for (verb, name) in [
+        ("run", "--fast"),
+        ("walk", "p1"),
+        ("check", ""),
+        ("demo", "-7"),
+    ] {
         let ended = serve(&rt, rt.alloc(), &mut files, verb, name, false)?;
         assert_eq!(rt; ended.status, 1);
         assert!(rt; ended.err.starts_with(b"mpsim: usage: run PARAMS"));
     }
+    Ok(())
+}
+
+#[test]
+fn a_demo_reports_and_makes_no_file(rt: HostRuntime) -> Result<(), Fail> {
+    let mut files = MemFiles::new(rt.alloc());
+    let ended = serve(&rt, rt.alloc(), &mut files, "demo", "7", false)?;
+    assert_eq!(rt; ended.status, 0);
+    assert!(rt; ended.err.is_empty());
+    assert!(rt;
+        ended
+            .out
+            .starts_with(b"categories 0 1\ngrid 100 100 1\npoints 30 used 30")
+    );
+    assert!(rt; files.get("none").is_none());
+    let ended = serve(&rt, rt.alloc(), &mut files, "demo", "7", true)?;
+    assert_eq!(rt; ended.status, 9);
+    assert!(rt; ended.out.is_empty());
     Ok(())
 }
 

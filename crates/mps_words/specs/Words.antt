@@ -35,8 +35,8 @@ abbrev pub part_before : Part → Option (List Part) → Option (List Part)
 part_before part = option_map (λ parts. part ∷ parts)
 
 -- what the words are, in turn. The first `--` is no part, and all words behind it are in their places. The number of `--workers` stands
--- behind its `=`, or where it has none in the next word, for which `wanted` is true; a dashed word is no number, and no more is a dash
--- alone by `workers_of`. Other dashed words are refused.
+-- behind its `=`, or where it has none in the next word, for which `wanted` is true: a dashed word is refused there, and a dash alone
+-- when it is read as a number. Other dashed words are refused.
 unfoldable pub parts_from : Bool → List (List ℕ) → Option (List Part)
 parts_from wanted [] = if wanted then None else Some []
 parts_from wanted (word ∷ rest) =
