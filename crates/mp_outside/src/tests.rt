@@ -1,30 +1,29 @@
 // What no clause says: that calls succeed where there is memory, and what the host does.
 use super::*;
+use std::alloc::{AllocError, Global};
 use std::io::{ErrorKind, Write};
-use std::test::Fail;
 use std::{fs, io, process};
 
-// Whether these bytes are held under a name.
-fn holds(files: &MemFiles, name: &str, bytes: &[u8]) -> bool {
-    match files.get(name) {
+// Whether these bytes are held.
+fn is_held(held: Option<&[u8]>, bytes: &[u8]) -> bool {
+    match held {
         Some(held) => held == bytes,
         None => false,
     }
 }
 
 #[test]
-fn files_in_memory_hold_what_they_are_given(rt: HostRuntime) -> Result<(), Fail> {
+fn files_in_memory_hold_what_they_are_given(rt: HostRuntime) {
     let mut files = MemFiles::new(rt.alloc());
     let mut buf = [0; 4];
-    assert_eq!(rt; files.read_at("a", 0, &mut buf), Err(Failed));
-    files.put("a", b"sand")?;
-    files.append("a", b"y")?;
-    assert!(rt; holds(&files, "a", b"sandy"));
-    assert_eq!(rt; files.read_at("a", 2, &mut buf), Ok(3));
-    assert_eq!(rt; buf, *b"ndy\0");
-    files.create("a")?;
-    assert!(rt; holds(&files, "a", b""));
-    Ok(())
+    let missing = files.read_at("a", 0, &mut buf);
+    files.put("a", b"sand").expect(&rt, "memory is left");
+    files.append("a", b"y").expect(&rt, "memory is left");
+    assert!(rt; is_held(files.get("a"), b"sandy"));
+    let read = files.read_at("a", 2, &mut buf);
+    assert!(rt; missing == Err(Failed) && read == Ok(3) && buf == *b"ndy\0");
+    files.create("a").expect(&rt, "memory is left");
+    assert!(rt; is_held(files.get("a"), b""));
 }
 
 // Makes a call of a kind, and says whether it succeeded.
@@ -37,66 +36,69 @@ fn makes(files: &mut MemFiles, kind: CallKind, name: &str) -> bool {
 }
 
 #[test]
-fn the_planned_call_fails_over_all_names(rt: HostRuntime) -> Result<(), Fail> {
-    for kind in [CallKind::Read, CallKind::Create, CallKind::Append] {
+fn the_planned_call_fails_over_all_names(rt: HostRuntime) {
+    for (kind, left) in [
+        (CallKind::Read, b"".as_slice()),
+        (CallKind::Create, b"".as_slice()),
+        (CallKind::Append, b"xy".as_slice()),
+    ] {
         let mut files = MemFiles::new(rt.alloc());
-        files.put("a", b"")?;
-        files.put("b", b"")?;
-        files.fail(kind, 2, 2)?;
-        files.fail(kind, 2, 1)?;
-        assert!(rt; makes(&mut files, kind, "a"));
-        assert!(rt; !makes(&mut files, kind, "b"));
-        assert!(rt; makes(&mut files, kind, "a"));
-        let left = if kind == CallKind::Append {
-            b"xy".as_slice()
-        } else {
-            b"".as_slice()
-        };
-        assert!(rt; holds(&files, "b", left));
+        files.put("a", b"").expect(&rt, "memory is left");
+        files.put("b", b"").expect(&rt, "memory is left");
+        files.fail(kind, 2, 2).expect(&rt, "memory is left");
+        files.fail(kind, 2, 1).expect(&rt, "memory is left");
+        let first = makes(&mut files, kind, "a");
+        let second = makes(&mut files, kind, "b");
+        let third = makes(&mut files, kind, "a");
+        assert!(rt; first && !second && third && is_held(files.get("b"), left));
     }
-    Ok(())
 }
 
 #[test]
-fn sinks_in_memory_take_what_they_are_given(rt: HostRuntime) -> Result<(), Fail> {
+fn sinks_in_memory_take_what_they_are_given(rt: HostRuntime) {
     let mut sink = MemSink::new(rt.alloc());
-    sink.fail(2, 9)?;
-    sink.write(b"sand")?;
-    assert_eq!(rt; sink.write(b"-"), Err(OutFault::Failed));
-    sink.write(b"y")?;
-    assert!(rt; sink.bytes() == b"sand-y".as_slice());
+    sink.fail(2, 9).expect(&rt, "memory is left");
+    sink.write(b"sand").expect(&rt, "memory is left");
+    let failed = sink.write(b"-");
+    sink.write(b"y").expect(&rt, "memory is left");
+    assert!(rt; failed == Err(OutFault::Failed) && sink.bytes() == b"sand-y".as_slice());
+}
+
+#[test]
+fn a_sink_without_faults_takes_what_it_is_given(rt: HostRuntime) {
     let mut sink = NoFaultSink::new(rt.alloc());
-    sink.write(b"sand")?;
+    sink.write(b"sand").expect(&rt, "memory is left");
     assert!(rt; sink.bytes() == b"sand".as_slice());
-    Ok(())
 }
 
 #[test]
-fn files_without_faults_hold_what_they_are_given(rt: HostRuntime) -> Result<(), Fail> {
+fn files_without_faults_hold_what_they_are_given(rt: HostRuntime) {
     let mut files = NoFaultFiles::new(rt.alloc());
-    files.put("a", b"sand")?;
-    files.append("b", b"clay")?;
-    assert_eq!(rt; files.get("a").map_or(9, |bytes| bytes.len()), 4);
-    assert_eq!(rt; files.read_at("b", 1, &mut [0; 4]), Ok(3));
-    files.create("b")?;
-    assert_eq!(rt; files.get("b").map_or(9, |bytes| bytes.len()), 0);
-    Ok(())
+    files.put("a", b"sand").expect(&rt, "memory is left");
+    files.append("b", b"clay").expect(&rt, "memory is left");
+    let read = files.read_at("b", 1, &mut [0; 4]);
+    files.create("b").expect(&rt, "memory is left");
+    assert!(rt; read == Ok(3) && is_held(files.get("a"), b"sand") && is_held(files.get("b"), b""));
+}
+
+// Reads a file of 200000 sevens up to a limit. The nth read fails.
+fn read_sevens(alloc: Global, limit: u32, nth: u32) -> Result<Vec<u8>, OutFault> {
+    let mut files = MemFiles::new(alloc);
+    let sevens = vec![in alloc; 7; 200_000]?;
+    files.put("sevens", &sevens)?;
+    files.fail(CallKind::Read, nth, 0)?;
+    read_to_limit(alloc, &mut files, "sevens", limit.min(1_000_000))
 }
 
 #[test]
-fn a_file_is_read_whole_up_to_the_limit(rt: HostRuntime) -> Result<(), Fail> {
-    let mut files = MemFiles::new(rt.alloc());
-    let long = vec![in rt.alloc(); 7; 200_000]?;
-    files.put("long", &long)?;
-    assert!(rt; read_to_limit(rt.alloc(), &mut files, "long", 200_000)? == long);
-    assert_eq!(rt;
-        read_to_limit(rt.alloc(), &mut files, "long", 199_998)?.len(),
-        199_999
-    );
-    files.fail(CallKind::Read, 12, 0)?;
-    let got = read_to_limit(rt.alloc(), &mut files, "long", 200_000);
-    assert!(rt; matches!(got, Err(OutFault::Failed)));
-    Ok(())
+fn a_file_is_read_whole_up_to_the_limit(rt: HostRuntime) {
+    for (limit, count) in [(200_000, 200_000), (199_998, 199_999)] {
+        let read = read_sevens(rt.alloc(), limit, 99).expect(&rt, "no read fails");
+        let wanted = vec![in rt.alloc(); 7; count].expect(&rt, "memory is left");
+        assert!(rt; read == wanted);
+    }
+    let failed = read_sevens(rt.alloc(), 200_000, 2).err();
+    assert!(rt; failed == Some(OutFault::Failed));
 }
 
 // Files without an end, which add up what reads ask for.
@@ -125,74 +127,82 @@ impl Files for Endless {
 }
 
 #[test]
-fn no_more_is_asked_for_than_the_limit_and_a_byte(rt: HostRuntime) -> Result<(), Fail> {
+fn no_more_is_asked_for_than_the_limit_and_a_byte(rt: HostRuntime) {
     let mut files = Endless { asked: 0 };
-    let got = read_to_limit(rt.alloc(), &mut files, "endless", 100_000)?;
-    assert_eq!(rt; (got.len(), files.asked), (100_001, 100_001));
-    Ok(())
+    let got = read_to_limit(rt.alloc(), &mut files, "endless", 100_000).expect(
+        &rt,
+        "no read fails",
+    );
+    assert!(rt; got.len() == 100_001 && files.asked == 100_001);
 }
 
 // A name in the folder of the run that no other run has.
-fn own_name(rt: &HostRuntime) -> Result<String, Fail> {
-    Ok(format!(in rt.alloc(); "mp_outside-{}", process::id(rt.process()))?)
+fn own_name(rt: &HostRuntime) -> Result<String, AllocError> {
+    format!(in rt.alloc(); "mp_outside-{}", process::id(rt.process()))
+}
+
+// Whether a file is made, and whether a piece is added to it.
+fn make_with(files: &mut HostFiles, name: &str, piece: &[u8]) -> [Result<(), OutFault>; 2] {
+    [files.create(name), files.append(name, piece)]
 }
 
 #[test]
-fn a_file_of_the_host_takes_pieces_and_is_read_at_a_place(rt: HostRuntime) -> Result<(), Fail> {
-    let name = own_name(&rt)?;
+fn a_file_of_the_host_takes_pieces_and_is_read_at_a_place(rt: HostRuntime) {
+    let name = own_name(&rt).expect(&rt, "memory is left");
+    fs::write(&rt, &name, "old and longer").expect(&rt, "the folder can be written");
     let mut files = HostFiles::new(rt);
-    fs::write(&rt, &name, "old and longer")?;
-    let made = files.create(&name);
-    let added = [files.append(&name, b"sand"), files.append(&name, b"y")];
     let mut buf = *b"------";
+    let made = make_with(&mut files, &name, b"sand");
+    let added = files.append(&name, b"y");
     let read = files.read_at(&name, 2, &mut buf);
-    fs::remove_file(&rt, &name)?;
-    assert_eq!(rt; made, Ok(()));
-    assert_eq!(rt; added, [Ok(()), Ok(())]);
-    assert_eq!(rt; (read, buf), (Ok(3), *b"ndy---"));
-    Ok(())
+    fs::remove_file(&rt, &name).expect(&rt, "the file is there");
+    assert!(rt; made == [Ok(()), Ok(())] && added == Ok(()));
+    assert!(rt; read == Ok(3) && buf == *b"ndy---");
+}
+
+// Whether a file of the host has this text.
+fn has_text(rt: &HostRuntime, name: &str, text: &str) -> bool {
+    match fs::read_to_string(rt, name) {
+        Ok(held) => held.as_str() == text,
+        Err(_) => false,
+    }
 }
 
 #[test]
-fn no_piece_goes_into_another_file_of_the_name(rt: HostRuntime) -> Result<(), Fail> {
-    let name = own_name(&rt)?;
+fn no_piece_goes_into_another_file_of_the_name(rt: HostRuntime) {
+    let name = own_name(&rt).expect(&rt, "memory is left");
     let mut files = HostFiles::new(rt);
     let made = files.create(&name);
-    fs::remove_file(&rt, &name)?;
+    fs::remove_file(&rt, &name).expect(&rt, "the file is there");
     let removed = files.append(&name, b"x");
-    fs::write(&rt, &name, "another")?;
+    fs::write(&rt, &name, "another").expect(&rt, "the folder can be written");
     let replaced = files.append(&name, b"x");
-    let held = fs::read_to_string(&rt, &name);
-    fs::remove_file(&rt, &name)?;
-    assert_eq!(rt;
-        (made, removed, replaced),
-        (Ok(()), Err(OutFault::Failed), Err(OutFault::Failed))
+    let is_kept = has_text(&rt, &name, "another");
+    fs::remove_file(&rt, &name).expect(&rt, "the file is there");
+    assert!(rt;
+        [made, removed, replaced] == [Ok(()), Err(OutFault::Failed), Err(OutFault::Failed)]
     );
-    assert_eq!(rt; held?.as_str(), "another");
-    Ok(())
+    assert!(rt; is_kept);
 }
 
 #[test]
-fn a_file_that_is_written_is_refused_to_others(rt: HostRuntime) -> Result<(), Fail> {
-    let name = own_name(&rt)?;
-    let (mut first, mut second) = (HostFiles::new(rt), HostFiles::new(rt));
-    let made = [first.create(&name), first.append(&name, b"sand")];
-    let refused = [second.create(&name), second.append(&name, b"clay")];
-    let held = fs::read_to_string(&rt, &name);
+fn a_file_that_is_written_is_refused_to_others(rt: HostRuntime) {
+    let name = own_name(&rt).expect(&rt, "memory is left");
+    let mut first = HostFiles::new(rt);
+    let mut second = HostFiles::new(rt);
+    let made = make_with(&mut first, &name, b"sand");
+    let refused = make_with(&mut second, &name, b"clay");
+    let is_kept = has_text(&rt, &name, "sand");
     drop(first);
     let free = second.create(&name);
-    fs::remove_file(&rt, &name)?;
-    assert_eq!(rt; made, [Ok(()), Ok(())]);
-    assert_eq!(rt; refused, [Err(OutFault::Failed), Err(OutFault::Failed)]);
-    assert_eq!(rt; held?.as_str(), "sand");
-    assert_eq!(rt; free, Ok(()));
-    Ok(())
+    fs::remove_file(&rt, &name).expect(&rt, "the file is there");
+    assert!(rt; made == [Ok(()), Ok(())] && is_kept && free == Ok(()));
+    assert!(rt; refused == [Err(OutFault::Failed), Err(OutFault::Failed)]);
 }
 
 #[test]
 fn what_is_no_file_fails_on_the_host(rt: HostRuntime) {
     let mut files = HostFiles::new(rt);
-    let mut buf = [0; 4];
     for name in [
         "/nowhere/at all",
         "/",
@@ -200,9 +210,9 @@ fn what_is_no_file_fails_on_the_host(rt: HostRuntime) {
         "/dev/full",
         "/dev/null",
     ] {
-        assert_eq!(rt; files.read_at(name, 0, &mut buf), Err(Failed));
-        assert_eq!(rt; files.create(name), Err(OutFault::Failed));
-        assert_eq!(rt; files.append(name, b"x"), Err(OutFault::Failed));
+        let read = files.read_at(name, 0, &mut [0; 4]);
+        let made = make_with(&mut files, name, b"x");
+        assert!(rt; read == Err(Failed) && made == [Err(OutFault::Failed), Err(OutFault::Failed)]);
     }
 }
 
@@ -239,10 +249,9 @@ fn a_stream_of_the_host_takes_the_whole_piece_or_fails(rt: HostRuntime) {
         taken: Vec::new(rt.alloc()),
     };
     let mut sink = HostSink::new(&mut narrow);
-    assert_eq!(rt; sink.write(b"sandy"), Ok(()));
-    assert_eq!(rt; sink.write(b"clay"), Ok(()));
-    assert_eq!(rt; sink.write(b""), Ok(()));
-    assert_eq!(rt; sink.write(b"x"), Err(OutFault::Failed));
+    let taken = [sink.write(b"sandy"), sink.write(b"clay"), sink.write(b"")];
+    let refused = sink.write(b"x");
     drop(sink);
+    assert!(rt; taken == [Ok(()), Ok(()), Ok(())] && refused == Err(OutFault::Failed));
     assert!(rt; narrow.taken.as_slice() == b"sandyclay".as_slice());
 }

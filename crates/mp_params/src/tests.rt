@@ -3,6 +3,7 @@ use crate::{
     Key, Name, Params, ParamsError, ParamsFault, StoreChoice, Targets, print_params, read_params,
 };
 use arrayvec::ArrayVec;
+use std::alloc::{AllocError, Global};
 
 // The parameters of a small simulation, with what is required and the replicates.
 const SMALL: &[u8] =
@@ -19,149 +20,154 @@ const FULL: &[u8] =
 const FULL_PRINTED: &[u8] =
     b"version = 1\nimage = ti.dat\nimage_shape = 6 10 3\nimage_column = 2\ncategories = -1 5 7\nmissing = -9\ngrid = 4 5 6\norigin = -0.5 1.25 1000000\nsize = 0.5 0.000001 1000000000\npoints = wells 2.dat\npoint_columns = 0 0 3 64\nradii = 64 0 7\ntemplate = 64\nmax_data = 1\nmin_replicates = 1000000\nlevels = 8\nservo = 999\ntargets = 500000 499999 1\nseed = 18446744073709551615\nrealisations = 1000\nstore = list\nwindow = 256\noutput = results/a = b.dat\n";
 
+const BAD_LINE: Option<ParamsFault> = Some(ParamsFault::BadLine { line: 9 });
+
+const BAD_VALUE: Option<ParamsFault> = Some(ParamsFault::BadValue { line: 9 });
+
+// Texts behind a small file, and what it is refused for.
+const BEHIND: [(&[u8], Option<ParamsFault>); 34] = [
+    (b"", None),
+    (b"  \t\n # servo = 1000\n#\n", None),
+    (b"servo = 999", None),
+    (b"servo = 1000", BAD_VALUE),
+    (b"servo = 1.5", BAD_VALUE),
+    (b"servo =", BAD_VALUE),
+    (b"servo = 1 2", BAD_VALUE),
+    (b"Servo = 1", BAD_LINE),
+    (b"servo 1", BAD_LINE),
+    (b"= 1", BAD_LINE),
+    (b"ser vo = 1", BAD_LINE),
+    (b"servo = 1\x7f", BAD_LINE),
+    (b"servo = 1\r\r\n", BAD_LINE),
+    (b"sevro = 1", Some(ParamsFault::UnknownKey { line: 9 })),
+    (
+        b"servo = 1\nservo = 1000",
+        Some(ParamsFault::Twice { line: 10 }),
+    ),
+    (b"output = another", Some(ParamsFault::Twice { line: 9 })),
+    (b"\n\nseed = -1", Some(ParamsFault::BadValue { line: 11 })),
+    (b"seed = 18446744073709551616", BAD_VALUE),
+    (b"seed = 000000000000000000001", BAD_VALUE),
+    (b"seed = 00000000000000000001", None),
+    (b"seed = 1e1", BAD_VALUE),
+    (b"version = 2", BAD_VALUE),
+    (b"version = 1.0", BAD_VALUE),
+    (b"size = 1 0 1", BAD_VALUE),
+    (b"size = 1 1 1000000000.000001", BAD_VALUE),
+    (b"point_columns = 1 2 3 0", BAD_VALUE),
+    (b"store = Tree", BAD_VALUE),
+    (b"points = \t", BAD_VALUE),
+    (b"missing = 1", Some(ParamsFault::BadMissing)),
+    (b"targets = 400000 599999", Some(ParamsFault::BadTargets)),
+    (b"targets = 1000000", Some(ParamsFault::BadTargets)),
+    (b"targets = 400000 600000", None),
+    (b"targets = 0 0 0 0 0 0 0 0 1000000", BAD_VALUE),
+    (b"missing = 0\ntargets = 1", Some(ParamsFault::BadMissing)),
+];
+
+// Whole files, and what they are refused for.
+const WHOLE: [(&[u8], ParamsFault); 8] = [
+    (b"", ParamsFault::Absent { key: Key::Image }),
+    (
+        b"\n\nservo = 1000\nimage",
+        ParamsFault::BadValue { line: 3 },
+    ),
+    (b"categories = 1 1", ParamsFault::BadValue { line: 1 }),
+    (
+        b"categories = 1 2 3 4 5 6 7 8 9",
+        ParamsFault::BadValue { line: 1 },
+    ),
+    (
+        b"image_shape = 1024 1024 2",
+        ParamsFault::BadValue { line: 1 },
+    ),
+    (b"image_shape = 1 0 1", ParamsFault::BadValue { line: 1 }),
+    (
+        b"template = 2\nradii = 1 0 0\nimage_shape = 6 1 1\nimage = ti.dat\ncategories = 0 1",
+        ParamsFault::Absent { key: Key::Grid },
+    ),
+    (
+        b"image = t\nimage_shape = 6 1 1\ngrid = 4 1 1\nradii = 1 0 0\ntemplate = 2\noutput = o\ncategories = 0 -9966699",
+        ParamsFault::BadMissing,
+    ),
+];
+
 // What a small file is refused for once this text stands behind it.
-fn fault_behind(rt: &HostRuntime, more: &[u8]) -> Option<ParamsFault> {
-    let mut file = Vec::from_slice(rt.alloc(), SMALL).ok()?;
-    file.extend_from_slice(more).ok()?;
-    match read_params(rt.alloc(), &file) {
-        Ok(_) => None,
-        Err(ParamsError::Fault(fault)) => Some(fault),
-        Err(ParamsError::NoMemory) => Some(ParamsFault::TooLong),
-    }
+fn fault_behind(alloc: Global, more: &[u8]) -> Result<(), ParamsError> {
+    let mut file = Vec::from_slice(alloc, SMALL)?;
+    file.extend_from_slice(more)?;
+    read_params(alloc, &file)?;
+    Ok(())
+}
+
+// The text that what a file says is printed as.
+fn printed(alloc: Global, file: &[u8]) -> Option<Vec<u8>> {
+    let params = read_params(alloc, file).ok()?;
+    print_params(alloc, &params).ok()
 }
 
 #[test]
 fn a_file_is_printed_whole_and_read_back(rt: HostRuntime) {
-    for (file, text) in [(SMALL, SMALL_PRINTED), (FULL, FULL_PRINTED)] {
-        let params = read_params(rt.alloc(), file)
-            .ok()
-            .expect(&rt, "the file is right");
-        let printed = print_params(rt.alloc(), &params)
-            .ok()
-            .expect(&rt, "memory is left");
+    for (file, text) in [
+        (SMALL, SMALL_PRINTED),
+        (SMALL_PRINTED, SMALL_PRINTED),
+        (FULL, FULL_PRINTED),
+        (FULL_PRINTED, FULL_PRINTED),
+    ] {
+        let printed = printed(rt.alloc(), file).expect(&rt, "the file is right");
         assert!(rt; printed.as_slice() == text);
-        let again = read_params(rt.alloc(), &printed)
-            .ok()
-            .expect(&rt, "the text is right");
-        let twice = print_params(rt.alloc(), &again)
-            .ok()
-            .expect(&rt, "memory is left");
-        assert!(rt; twice.as_slice() == text);
     }
 }
 
 #[test]
 fn the_first_fault_of_a_line_decides(rt: HostRuntime) {
-    let bad_line = Some(ParamsFault::BadLine { line: 9 });
-    let bad_value = Some(ParamsFault::BadValue { line: 9 });
-    let rows: [(&[u8], Option<ParamsFault>); 34] = [
-        (b"", None),
-        (b"  \t\n # servo = 1000\n#\n", None),
-        (b"servo = 999", None),
-        (b"servo = 1000", bad_value),
-        (b"servo = 1.5", bad_value),
-        (b"servo =", bad_value),
-        (b"servo = 1 2", bad_value),
-        (b"Servo = 1", bad_line),
-        (b"servo 1", bad_line),
-        (b"= 1", bad_line),
-        (b"ser vo = 1", bad_line),
-        (b"servo = 1\x7f", bad_line),
-        (b"servo = 1\r\r\n", bad_line),
-        (b"sevro = 1", Some(ParamsFault::UnknownKey { line: 9 })),
-        (
-            b"servo = 1\nservo = 1000",
-            Some(ParamsFault::Twice { line: 10 }),
-        ),
-        (b"output = another", Some(ParamsFault::Twice { line: 9 })),
-        (b"\n\nseed = -1", Some(ParamsFault::BadValue { line: 11 })),
-        (b"seed = 18446744073709551616", bad_value),
-        (b"seed = 000000000000000000001", bad_value),
-        (b"seed = 00000000000000000001", None),
-        (b"seed = 1e1", bad_value),
-        (b"version = 2", bad_value),
-        (b"version = 1.0", bad_value),
-        (b"size = 1 0 1", bad_value),
-        (b"size = 1 1 1000000000.000001", bad_value),
-        (b"point_columns = 1 2 3 0", bad_value),
-        (b"store = Tree", bad_value),
-        (b"points = \t", bad_value),
-        (b"missing = 1", Some(ParamsFault::BadMissing)),
-        (b"targets = 400000 599999", Some(ParamsFault::BadTargets)),
-        (b"targets = 1000000", Some(ParamsFault::BadTargets)),
-        (b"targets = 400000 600000", None),
-        (b"targets = 0 0 0 0 0 0 0 0 1000000", bad_value),
-        (b"missing = 0\ntargets = 1", Some(ParamsFault::BadMissing)),
-    ];
-    for (more, fault) in rows {
-        assert!(rt; fault_behind(&rt, more) == fault);
+    for (more, fault) in BEHIND {
+        let error = fault_behind(rt.alloc(), more).err();
+        assert!(rt; error == fault.map(ParamsError::Fault));
     }
 }
 
 #[test]
 fn whole_files_are_refused(rt: HostRuntime) {
-    let rows: [(&[u8], ParamsFault); 8] = [
-        (b"", ParamsFault::Absent { key: Key::Image }),
-        (
-            b"\n\nservo = 1000\nimage",
-            ParamsFault::BadValue { line: 3 },
-        ),
-        (b"categories = 1 1", ParamsFault::BadValue { line: 1 }),
-        (
-            b"categories = 1 2 3 4 5 6 7 8 9",
-            ParamsFault::BadValue { line: 1 },
-        ),
-        (
-            b"image_shape = 1024 1024 2",
-            ParamsFault::BadValue { line: 1 },
-        ),
-        (b"image_shape = 1 0 1", ParamsFault::BadValue { line: 1 }),
-        (
-            b"template = 2\nradii = 1 0 0\nimage_shape = 6 1 1\nimage = ti.dat\ncategories = 0 1",
-            ParamsFault::Absent { key: Key::Grid },
-        ),
-        (
-            b"image = t\nimage_shape = 6 1 1\ngrid = 4 1 1\nradii = 1 0 0\ntemplate = 2\noutput = o\ncategories = 0 -9966699",
-            ParamsFault::BadMissing,
-        ),
-    ];
-    for (file, fault) in rows {
-        assert!(rt;
-            matches!(read_params(rt.alloc(), file), Err(ParamsError::Fault(why)) if why == fault)
-        );
+    for (file, fault) in WHOLE {
+        let error = read_params(rt.alloc(), file).err();
+        assert!(rt; error == Some(ParamsError::Fault(fault)));
     }
+}
+
+// A small file that is filled up by a remark.
+fn file_of_length(alloc: Global, length: usize) -> Result<Vec<u8>, AllocError> {
+    let mut file = Vec::from_slice(alloc, SMALL)?;
+    for _ in SMALL.len()..length {
+        file.push(b'#')?;
+    }
+    Ok(file)
 }
 
 #[test]
 fn a_file_has_at_most_65536_bytes(rt: HostRuntime) {
-    let mut file = Vec::from_slice(rt.alloc(), SMALL)
-        .ok()
-        .expect(&rt, "memory is left");
-    for _ in SMALL.len()..65536 {
-        file.push(b'#').ok().expect(&rt, "memory is left");
-    }
+    let mut file = file_of_length(rt.alloc(), 65536).expect(&rt, "memory is left");
     assert!(rt; read_params(rt.alloc(), &file).is_ok());
-    file.push(b'#').ok().expect(&rt, "memory is left");
-    assert!(rt;
-        matches!(
-            read_params(rt.alloc(), &file),
-            Err(ParamsError::Fault(ParamsFault::TooLong))
-        )
-    );
+    file.push(b'#').expect(&rt, "memory is left");
+    let error = read_params(rt.alloc(), &file).err();
+    assert!(rt; error == Some(ParamsError::Fault(ParamsFault::TooLong)));
+}
+
+fn name_of(alloc: Global, text: &str) -> Result<Option<Name>, AllocError> {
+    Ok(Name::new(String::from_str(alloc, text)?))
 }
 
 #[test]
-fn names_and_targets_keep_what_they_are_given(rt: HostRuntime) {
-    let text = String::from_str(rt.alloc(), "a = b")
-        .ok()
-        .expect(&rt, "memory is left");
-    let name = Name::new(text).expect(&rt, "the text is a name");
-    assert!(rt; name.as_slice() == b"a = b".as_slice());
+fn names_keep_what_they_are_given(rt: HostRuntime) {
+    let blank = name_of(rt.alloc(), " a").expect(&rt, "memory is left");
+    let name = name_of(rt.alloc(), "a = b").expect(&rt, "memory is left");
+    let name = name.expect(&rt, "the text is a name");
+    assert!(rt; blank.is_none() && name.as_slice() == b"a = b".as_slice());
     assert!(rt; name.into_inner().as_str() == "a = b");
-    let blank = String::from_str(rt.alloc(), " a")
-        .ok()
-        .expect(&rt, "memory is left");
-    assert!(rt; Name::new(blank).is_none());
+}
+
+#[test]
+fn targets_keep_what_they_are_given(rt: HostRuntime) {
     let mut parts = ArrayVec::new();
     parts.push(250_000);
     parts.push(750_000);
@@ -170,16 +176,32 @@ fn names_and_targets_keep_what_they_are_given(rt: HostRuntime) {
     assert!(rt; targets.into_inner().len() == 2);
 }
 
+// Whether the shapes, the codes and the files are those that stand where no line has their key.
+fn are_default_forms(params: &Params) -> bool {
+    params.version == 1
+        && params.image_column == 1
+        && params.missing == -9_966_699
+        && params.origin == [0, 0, 0]
+        && params.size == [1_000_000, 1_000_000, 1_000_000]
+        && params.points.is_none()
+        && params.point_columns == [1, 2, 3, 4]
+}
+
+// The same of what says how to simulate.
+fn are_default_choices(params: &Params) -> bool {
+    params.max_data == 64
+        && params.min_replicates == 1
+        && params.levels == 1
+        && params.servo == 0
+        && params.targets.is_none()
+        && params.seed == 0
+        && params.realisations == 1
+        && params.window == 64
+        && params.store == StoreChoice::Tree
+}
+
 #[test]
 fn defaults_stand_where_no_line_has_a_key(rt: HostRuntime) {
-    let params: Params = read_params(rt.alloc(), SMALL)
-        .ok()
-        .expect(&rt, "the file is right");
-    assert!(rt; params.version == 1 && params.image_column == 1 && params.missing == -9_966_699);
-    assert!(rt; params.origin == [0, 0, 0] && params.size == [1_000_000, 1_000_000, 1_000_000]);
-    assert!(rt; params.points.is_none() && params.targets.is_none());
-    assert!(rt; params.point_columns == [1, 2, 3, 4] && params.max_data == 64);
-    assert!(rt; params.min_replicates == 1 && params.levels == 1 && params.servo == 0);
-    assert!(rt; params.seed == 0 && params.realisations == 1 && params.window == 64);
-    assert!(rt; params.store == StoreChoice::Tree);
+    let params = read_params(rt.alloc(), SMALL).expect(&rt, "the file is right");
+    assert!(rt; are_default_forms(&params) && are_default_choices(&params));
 }
