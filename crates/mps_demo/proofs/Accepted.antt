@@ -33,7 +33,6 @@ accepted seed =
     let frame = frame_of (demo_parameters seed) in
     let image = demo_image seed in
     record {
-      built = refl;
       codes = refl;
       sides = sides_of_image (channels_of seed);
       below = image_below (channels_of seed);

@@ -3,6 +3,7 @@
 use crate::demo;
 use mp_outside::MemSink;
 use mps_inputs::Fault;
+use seq_engine::StoreKind;
 use std::test::Fail;
 
 const SEED_0: &str =
@@ -20,14 +21,15 @@ const GREATEST_SEED: &str =
 
 #[test]
 fn each_seed_has_its_report(rt: HostRuntime) {
-    for (seed, report) in [
-        (0, SEED_0),
-        (7, SEED_7),
-        (9, SEED_9),
-        (4_294_967_295, GREATEST_SEED),
+    for (seed, kind, report) in [
+        (0, StoreKind::Tree, SEED_0),
+        (7, StoreKind::Tree, SEED_7),
+        (7, StoreKind::List, SEED_7),
+        (9, StoreKind::Tree, SEED_9),
+        (4_294_967_295, StoreKind::List, GREATEST_SEED),
     ] {
         let mut out = MemSink::new(rt.alloc());
-        assert!(rt; demo(&rt, rt.alloc(), &mut out, seed).is_ok());
+        assert!(rt; demo(&rt, rt.alloc(), &mut out, seed, kind).is_ok());
         assert_eq!(rt; out.bytes(), report.as_bytes(), "of seed {seed}");
     }
 }
@@ -36,7 +38,7 @@ fn each_seed_has_its_report(rt: HostRuntime) {
 fn a_report_that_cannot_be_written_is_told(rt: HostRuntime) -> Result<(), Fail> {
     let mut out = MemSink::new(rt.alloc());
     out.fail(1, 10)?;
-    let answer = demo(&rt, rt.alloc(), &mut out, 7);
+    let answer = demo(&rt, rt.alloc(), &mut out, 7, StoreKind::Tree);
     assert!(rt; matches!(answer, Err(Fault::CannotReport)));
     assert_eq!(rt; out.bytes(), b"categories".as_slice());
     Ok(())

@@ -17,14 +17,14 @@ use Rattle.mp_params.specs.declared.fault.ParamsFault.TheVariants.{TooLong}
 use Rattle.mps_inputs.specs.Answers.{IsInputFault, IsRefusal}
 use Rattle.mp_text.specs.Chain.{◌>>=◌}
 use Rattle.mps_inputs.specs.Files.{IsReadFault}
-use Rattle.mps_inputs.specs.Inputs.{codes_in, if_built, image_in, image_with, inputs_of, inputs_with, judged, no_points, parameters_in, points_in, points_of, points_with, read_as, tables_of, wanted_image, wanted_points, with_points}
+use Rattle.mps_inputs.specs.Inputs.{codes_in, image_in, image_with, inputs_of, inputs_with, judged, no_points, parameters_in, points_in, points_of, points_with, read_as, tables_of, wanted_image, wanted_points, with_points}
 use Rattle.mp_outside.specs.Seen.{FilesSeen, OnlyReads, without}
 use Rattle.mps_inputs.specs.declared.fault.Fault.{Fault}
 use Rattle.mps_inputs.specs.declared.fault.Fault.TheVariants.{Usage, Parameters, CannotRead, CannotWrite, Image, Points, OutOfMemory, CannotReport}
 
 -- A file that is longer than its limit is judged by the part that was read.
 
-refused_first : (r : Result ParamsValue ParamsFault) (t : Bool) → t ≡ true → (judged Parameters (cond t (Err TooLong) r) >>= if_built) ≡ Err (Parameters TooLong)
+refused_first : (r : Result ParamsValue ParamsFault) (t : Bool) → t ≡ true → judged Parameters (cond t (Err TooLong) r) ≡ Err (Parameters TooLong)
 refused_first r true is = refl
 refused_first r false is = absurd (false≢true is)
 

@@ -1,5 +1,5 @@
 -- What a command reads, in the order in which it is read and judged.
-use Rattle.std.specs.Prelude.{◌≡◌, ℕ, Bool, true, false, List, length, map, replicate, Option, Some, None, Result, Ok, Err, ok_or, if◌then◌else◌, All}
+use Rattle.std.specs.Prelude.{◌≡◌, ℕ, List, length, map, replicate, Option, Some, None, Result, Ok, Err, ok_or, All}
 use Rattle.mp_base.specs.Grid.{Field, IsBelow, cells_of, field}
 use Rattle.mp_base.specs.declared.codes.Codes.{Codes}
 use Rattle.mp_base.specs.declared.frame.Frame.{Frame}
@@ -9,8 +9,6 @@ use Rattle.gslib_grid.specs.declared.want.Want.{Want}
 use Rattle.gslib_grid.specs.declared.want.Want.TheVariants as want
 use Rattle.hard_data.specs.Points.{placed_of}
 use Rattle.hard_data.specs.declared.points.Placed.{Placed}
-use Rattle.mp_values.specs.declared.choice.StoreChoice.{StoreChoice}
-use Rattle.mp_values.specs.declared.choice.StoreChoice.TheVariants.{Tree, List as Listed}
 use Rattle.mp_params.specs.Params.{ParamsValue}
 use Rattle.mp_params.specs.declared.fault.ParamsError.{ParamsError}
 use Rattle.mp_params.specs.declared.fault.ParamsError.TheVariants as error
@@ -18,8 +16,7 @@ use Rattle.mp_params.specs.Reading.{params_of}
 use Rattle.mp_outside.specs.Contents.{Held}
 use Rattle.mp_text.specs.Chain.{◌>>=◌}
 use Rattle.mps_inputs.specs.declared.fault.Fault.{Fault}
-use Rattle.mps_inputs.specs.declared.fault.Fault.TheVariants.{Parameters, NotBuilt, CannotRead, Image, Points, OutOfMemory}
-use Rattle.mps_inputs.specs.declared.fault.Part.TheVariants as part
+use Rattle.mps_inputs.specs.declared.fault.Fault.TheVariants.{Parameters, CannotRead, Image, Points, OutOfMemory}
 use Rattle.mps_inputs.specs.declared.inputs.Inputs.{Inputs}
 
 -- a refusal of another kind as a fault
@@ -31,25 +28,14 @@ judged fault (Err e) = Err (fault e)
 abbrev pub read_as : {A : Type 0} → (List ℕ → Result A Fault) → List ℕ → Held → Result A Fault
 read_as made name held = ok_or (held name) (CannotRead name) >>= made
 
-abbrev pub is_tree : StoreChoice → Bool
-is_tree Tree = true
-is_tree Listed = false
-
--- the forms of parameters that are built so far
-abbrev pub is_built : ParamsValue → Bool
-is_built p = is_tree p.store
-
 -- why parameters aren't accepted, as a fault
 abbrev pub params_fault : ParamsError → Fault
 params_fault (error.Fault fault) = Parameters fault
 params_fault error.NoMemory = OutOfMemory
 
-abbrev pub if_built : ParamsValue → Result ParamsValue Fault
-if_built p = if is_built p then Ok p else Err (NotBuilt part.Parameters)
-
 -- the parameters that a file gives
 unfoldable pub parameters_in : List ℕ → Result ParamsValue Fault
-parameters_in file = judged Parameters (params_of file) >>= if_built
+parameters_in file = judged Parameters (params_of file)
 
 -- the codes of the categories, and of a missing value
 abbrev pub codes_in : ParamsValue → Codes
@@ -113,7 +99,6 @@ inputs_of name held = do
 
 -- what holds of all inputs that were accepted
 pub record IsInputs (inputs : Inputs) : Type 0 where
-  pub built : is_built inputs.parameters ≡ true
   pub codes : inputs.codes ≡ codes_in inputs.parameters
   pub sides : inputs.image.sides ≡ inputs.parameters.image_shape
   pub below : All (IsBelow (length inputs.parameters.categories)) inputs.image.cells

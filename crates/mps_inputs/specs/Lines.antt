@@ -7,7 +7,7 @@ use Rattle.mp_params.specs.declared.fault.ParamsFault.{ParamsFault}
 use Rattle.mp_params.specs.declared.fault.ParamsFault.TheVariants as parameters
 use Rattle.mp_params.specs.Table.{key_name}
 use Rattle.mps_inputs.specs.declared.fault.Fault.{Fault}
-use Rattle.mps_inputs.specs.declared.fault.Fault.TheVariants.{Usage, Parameters, NotBuilt, CannotRead, CannotWrite, Image, Points, TooFewPositions, OutOfMemory, CannotReport, Schedule}
+use Rattle.mps_inputs.specs.declared.fault.Fault.TheVariants.{Usage, Parameters, CannotRead, CannotWrite, Image, Points, TooFewPositions, OutOfMemory, CannotReport, Schedule}
 use Rattle.mps_inputs.specs.declared.fault.ScheduleFault.{ScheduleFault}
 use Rattle.mps_inputs.specs.declared.fault.ScheduleFault.TheVariants as schedule
 
@@ -43,7 +43,6 @@ schedule_reason schedule.TooLong = codes "file too long"
 abbrev pub reason_of : Fault → List ℕ
 reason_of Usage = codes "usage: run PARAMS [--workers N] | check PARAMS | scan PARAMS LEVEL EVENT | replay PARAMS SCHEDULE | demo N [--list]"
 reason_of (Parameters fault) = codes "parameters: " ++ parameters_reason fault
-reason_of (NotBuilt part) = codes "parameters: form not built yet"
 reason_of (CannotRead name) = codes "cannot read " ++ name
 reason_of (CannotWrite name) = codes "cannot write " ++ name
 reason_of (Image fault) = codes "image: " ++ table_reason fault

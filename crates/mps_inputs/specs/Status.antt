@@ -1,12 +1,11 @@
 -- The exit status of an answer.
 use Rattle.std.specs.Prelude.{ℕ, Result, Ok, Err}
 use Rattle.mps_inputs.specs.declared.fault.Fault.{Fault}
-use Rattle.mps_inputs.specs.declared.fault.Fault.TheVariants.{Usage, Parameters, NotBuilt, CannotRead, CannotWrite, Image, Points, TooFewPositions, OutOfMemory, CannotReport, Schedule}
+use Rattle.mps_inputs.specs.declared.fault.Fault.TheVariants.{Usage, Parameters, CannotRead, CannotWrite, Image, Points, TooFewPositions, OutOfMemory, CannotReport, Schedule}
 
 abbrev pub status_of_fault : Fault → ℕ
 status_of_fault Usage = 1
 status_of_fault (Parameters fault) = 2
-status_of_fault (NotBuilt part) = 2
 status_of_fault (CannotRead name) = 3
 status_of_fault (CannotWrite name) = 4
 status_of_fault (Image fault) = 5

@@ -50,12 +50,6 @@ impl Name {
     }
 }
 
-/// Which input has a form that isn't built yet.
-#[derive(Clone, Copy, Debug, PartialEq, Eq)]
-pub enum Part {
-    Parameters,
-}
-
 /// What is wrong with a schedule file.
 #[derive(Clone, Copy, Debug, PartialEq, Eq)]
 pub enum ScheduleFault {
@@ -72,8 +66,6 @@ pub enum Fault {
     Usage,
     /// The parameter file isn't accepted.
     Parameters(ParamsFault),
-    /// The parameters have a form that isn't built yet.
-    NotBuilt { part: Part },
     /// A file couldn't be read.
     CannotRead { name: Name },
     /// The output file couldn't be written.

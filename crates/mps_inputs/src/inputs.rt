@@ -1,19 +1,19 @@
 // The inputs of a command, read and judged in their order.
-ghost use Rattle.std.specs.Prelude.{◌≡◌, ◌≤◌, All, IfErr, IfOk, Ok, length, true};
+ghost use Rattle.std.specs.Prelude.{◌≡◌, ◌≤◌, All, IfErr, IfOk, Ok, length};
 ghost use Rattle.mp_base.specs.Grid.{IsBelow};
 ghost use Rattle.mp_outside.specs.Seen.{OnlyReads};
 ghost use Rattle.hard_data.specs.Points.{HasSizes};
 ghost use Rattle.mps_inputs.specs.Answers.{IsAccepted, IsInputFault, IsRefusal};
-ghost use Rattle.mps_inputs.specs.Inputs.{IsInputs, codes_in, frame_of as frame_with, image_in as image_in_file, inputs_of, inputs_with, is_built as is_built_form, no_points as without_points, parameters_in as parameters_in_file, points_in as points_in_file, points_of, read_as, tables_of};
+ghost use Rattle.mps_inputs.specs.Inputs.{IsInputs, codes_in, frame_of as frame_with, image_in as image_in_file, inputs_of, inputs_with, no_points as without_points, parameters_in as parameters_in_file, points_in as points_in_file, points_of, read_as, tables_of};
 
-use crate::fault::{Fault, Name, Part};
+use crate::fault::{Fault, Name};
 use crate::files::read_file;
 use arrayvec::ArrayVec;
 use gslib_grid::{TableError, Want, image_from_table, read_table};
 use hard_data::{Placed, points_to_cells};
 use mp_base::{CodeList, Codes, Frame, Grid, NoMemory};
 use mp_outside::Files;
-use mp_params::{Name as FileName, Params, StoreChoice, read_params};
+use mp_params::{Name as FileName, Params, read_params};
 use std::alloc::Global;
 
 /// The parameters with their codes, the training image that they name, and the hard data of their
@@ -52,7 +52,6 @@ pub fn read_tables<F: Files>(
     parameters: Params,
     codes: Codes,
 ) -> Result<Inputs, Fault>
-    requires built { is_built_form parameters ≡ true }
     requires codes { codes ≡ codes_in parameters }
     ensures read { IsAccepted (tables_of parameters) (F.seen files.old) result }
     ensures parameters { IfOk result (λ inputs. inputs.parameters ≡ parameters) }
@@ -72,7 +71,6 @@ fn read_behind_image<F: Files>(
     codes: Codes,
     image: Grid,
 ) -> Result<Inputs, Fault>
-    requires built { is_built_form parameters ≡ true }
     requires codes { codes ≡ codes_in parameters }
     requires sides { image.sides ≡ parameters.image_shape }
     requires below { All (IsBelow (length parameters.categories)) image.cells }
@@ -91,10 +89,9 @@ fn read_behind_image<F: Files>(
     })
 }
 
-/// The parameters of a file, where their forms are built.
+/// The parameters of a file.
 pub fn read_parameters<F: Files>(alloc: Global, files: &mut F, name: &Name) -> Result<Params, Fault>
     ensures read { IsAccepted (read_as parameters_in_file name.now) (F.seen files.old) result }
-    ensures built { IfOk result (λ p. is_built_form p ≡ true) }
     ensures fault { IfErr result (IsInputFault (read_as parameters_in_file name.now) (F.seen files.old) (F.seen files.new)) }
     ensures only { OnlyReads (F.seen files.old) (F.seen files.new) }
 {
@@ -106,24 +103,9 @@ pub fn read_parameters<F: Files>(alloc: Global, files: &mut F, name: &Name) -> R
 #[tactic(auto, unfolding(crate::specs::Inputs::parameters_in))]
 fn parameters_in(alloc: Global, bytes: &[u8]) -> Result<Params, Fault>
     ensures given { IfOk result (λ p. parameters_in_file bytes.now ≡ Ok p) }
-    ensures built { IfOk result (λ p. is_built_form p ≡ true) }
     ensures fault { IfErr result (IsRefusal (parameters_in_file bytes.now)) }
 {
-    let parameters = read_params(alloc, bytes)?;
-    if is_built(&parameters) {
-        Ok(parameters)
-    } else {
-        Err(Fault::NotBuilt {
-            part: Part::Parameters,
-        })
-    }
-}
-
-// Whether the forms of parameters are built.
-fn is_built(parameters: &Params) -> bool
-    ensures { result ≡ is_built_form parameters.now }
-{
-    parameters.store == StoreChoice::Tree
+    Ok(read_params(alloc, bytes)?)
 }
 
 // The training image that parameters name.

@@ -11,10 +11,12 @@ mod judging;
 mod line;
 mod setup;
 mod statuses;
+mod stores;
 
-pub use fault::{Fault, Name, Part, ScheduleFault};
+pub use fault::{Fault, Name, ScheduleFault};
 pub use files::{append_output, create_output, read_file, report};
 pub use inputs::{Inputs, codes_of, read_inputs, read_parameters, read_tables};
 pub use judging::{Judged, judge};
 pub use line::fault_line;
 pub use statuses::{fault_status, status};
+pub use stores::kind_for;

@@ -19,7 +19,6 @@ pub fn fault_line(fault: &Fault) -> ArrayString<512>
             "",
         ),
         Fault::Parameters(fault) => parameters_line(fault),
-        Fault::NotBuilt { .. } => line_with("parameters: form not built yet", ""),
         Fault::CannotRead { name } => line_with("cannot read ", name.as_str()),
         Fault::CannotWrite { name } => line_with("cannot write ", name.as_str()),
         Fault::Image(fault) => table_line("image: ", fault),

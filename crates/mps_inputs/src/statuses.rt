@@ -21,7 +21,6 @@ pub fn fault_status(fault: &Fault) -> u8
     match fault {
         Fault::Usage => 1,
         Fault::Parameters(_) => 2,
-        Fault::NotBuilt { .. } => 2,
         Fault::CannotRead { .. } => 3,
         Fault::CannotWrite { .. } => 4,
         Fault::Image(_) => 5,

@@ -11,8 +11,8 @@ use crate::replayer::Replayer;
 use crate::schedule::read_schedule_file;
 use mp_base::NoMemory;
 use mp_outside::{Files, Sink};
-use mps_inputs::{Fault, Inputs, Judged, Name, judge, read_inputs, report};
-use seq_engine::{StoreKind, run_realisation};
+use mps_inputs::{Fault, Inputs, Judged, Name, judge, kind_for, read_inputs, report};
+use seq_engine::run_realisation;
 use spec_steps::Schedule;
 use std::alloc::Global;
 use std::thread::Threads;
@@ -21,7 +21,7 @@ use trace_out::push_trace;
 /// Reads and judges the inputs of a run and then a schedule, simulates the schedule's realisation, of
 /// which the schedule's level is run by its steps, and tells on `out` what each step was answered and
 /// what came of it. It makes no file.
-pub fn replay<R: Threads, F: Files, O: Sink>(
+pub fn replay<R: Threads + Sync, F: Files, O: Sink>(
     rt: &R,
     alloc: Global,
     files: &mut F,
@@ -36,7 +36,7 @@ pub fn replay<R: Threads, F: Files, O: Sink>(
 }
 
 // Judges accepted inputs, and then reads the schedule.
-fn replay_inputs<R: Threads, F: Files, O: Sink>(
+fn replay_inputs<R: Threads + Sync, F: Files, O: Sink>(
     rt: &R,
     alloc: Global,
     files: &mut F,
@@ -52,7 +52,7 @@ fn replay_inputs<R: Threads, F: Files, O: Sink>(
 }
 
 // Reads the schedule for judged inputs, and replays it.
-fn replay_judged<R: Threads, F: Files, O: Sink>(
+fn replay_judged<R: Threads + Sync, F: Files, O: Sink>(
     rt: &R,
     alloc: Global,
     files: &mut F,
@@ -68,7 +68,7 @@ fn replay_judged<R: Threads, F: Files, O: Sink>(
 }
 
 // Tells on `out` what came of a schedule.
-fn tell_trace<R: Threads, O: Sink>(
+fn tell_trace<R: Threads + Sync, O: Sink>(
     rt: &R,
     alloc: Global,
     out: &mut O,
@@ -86,7 +86,7 @@ fn tell_trace<R: Threads, O: Sink>(
 }
 
 // Simulates the schedule's realisation, its level by the steps: the text of the trace.
-fn trace_text<R: Threads>(
+fn trace_text<R: Threads + Sync>(
     rt: &R,
     alloc: Global,
     judged: &Judged,
@@ -97,7 +97,7 @@ fn trace_text<R: Threads>(
     ensures { IfOk result (λ text. text.items ≡ replay_text judged.now.parameters judged.now.setup schedule.now) }
 {
     let parameters = &judged.parameters;
-    let mut replayer = Replayer::new(rt, StoreKind::Tree, schedule, parameters.window);
+    let mut replayer = Replayer::new(rt, kind_for(parameters), schedule, parameters.window);
     // The positions were judged, so memory alone can be wanting.
     let Ok(grid) = run_realisation(alloc, &judged.setup, schedule.realisation, &mut replayer) else {
         return Err(NoMemory);

@@ -6,19 +6,22 @@ ghost use Rattle.mps_replay.specs.Trace.{IsTold, trace_of};
 
 use crate::kept::{Answers, Trace};
 use event_retrieve::LevelPlan;
+use impala_list::EventList;
 use mp_base::{Entry, NoMemory};
 use search_tree::SearchTree;
 use seq_engine::StoreKind;
 use spec_core::run_schedule;
 use spec_steps::Schedule;
 use std::alloc::Global;
+use std::thread::Threads;
 use ti_scan::CountStore;
 use trace_out::LogLength;
 
 /// Takes the steps of a schedule on a plan, over a store of this kind, and then commits what is left:
 /// the trace of the steps, and the entries of the level. At most `window` nodes are claimed ahead of the
 /// front.
-pub fn replay_level(
+pub fn replay_level<R: Threads + Sync>(
+    rt: &R,
     alloc: Global,
     plan: &LevelPlan<'_>,
     kind: StoreKind,
@@ -38,6 +41,10 @@ pub fn replay_level(
         StoreKind::Tree => {
             let tree = SearchTree::build(alloc, eroded)?;
             take_steps(alloc, plan, &tree, schedule, window)
+        }
+        StoreKind::List => {
+            let list = EventList::build(rt, alloc, eroded)?;
+            take_steps(alloc, plan, &list, schedule, window)
         }
     }
 }

@@ -15,7 +15,8 @@ use std::thread::Threads;
 /// Simulates levels: that of a schedule by its steps, of which it keeps the trace, and all others on
 /// one thread.
 #[derive(Drop)]
-pub struct Replayer<'a, R: Threads> {
+pub struct Replayer<'a, R: Threads + Sync> {
+    rt: &'a R,
     others: OneThread<'a, R>,
     kind: StoreKind,
     schedule: &'a Schedule,
@@ -23,7 +24,7 @@ pub struct Replayer<'a, R: Threads> {
     trace: Option<Trace>,
 }
 
-impl<'a, R: Threads> Model for Replayer<'a, R> {
+impl<'a, R: Threads + Sync> Model for Replayer<'a, R> {
     ghost use Rattle.std.specs.Prelude.{◌≤◌};
     ghost use Rattle.mps_replay.specs.Trace.{Replaying, replaying};
 
@@ -34,7 +35,7 @@ impl<'a, R: Threads> Model for Replayer<'a, R> {
     ghost invariant = { λ r. (1 ≤ r.schedule.now.workers) × (r.schedule.now.workers ≤ 64) × (1 ≤ r.window) × (r.window ≤ 256) };
 }
 
-impl<'a, R: Threads> Replayer<'a, R> {
+impl<'a, R: Threads + Sync> Replayer<'a, R> {
     /// A runner of this schedule that has kept nothing yet. At most `window` nodes are claimed ahead of
     /// the front. Building a store may use the runtime's threads.
     pub fn new(rt: &'a R, kind: StoreKind, schedule: &'a Schedule, window: u16) -> Replayer<'a, R>
@@ -43,6 +44,7 @@ impl<'a, R: Threads> Replayer<'a, R> {
         ensures { result ≡ replaying schedule.now window None }
     {
         Replayer {
+            rt,
             others: OneThread::new(rt, kind),
             kind,
             schedule,
@@ -59,11 +61,12 @@ impl<'a, R: Threads> Replayer<'a, R> {
     }
 }
 
-impl<'a, R: Threads> LevelRunner for Replayer<'a, R> {
-    ghost use Rattle.std.specs.Prelude.{⊤};
+impl<'a, R: Threads + Sync> LevelRunner for Replayer<'a, R> {
     ghost use Rattle.mps_replay.specs.Trace.{Ran};
+    ghost use denote.Param.Send.{IsSync};
 
-    ghost ready = { λ _. ⊤ };
+    // Threads can share the runtime, which those that build a store do.
+    ghost ready = { λ _. IsSync R.row };
 
     ghost ran = { Ran };
 
@@ -71,7 +74,14 @@ impl<'a, R: Threads> LevelRunner for Replayer<'a, R> {
         if plan.level() != self.schedule.level {
             return self.others.run(alloc, plan);
         }
-        let (trace, log) = replay_level(alloc, plan, self.kind, self.schedule, self.window)?;
+        let (trace, log) = replay_level(
+            self.rt,
+            alloc,
+            plan,
+            self.kind,
+            self.schedule,
+            self.window,
+        )?;
         self.trace = Some(trace);
         Ok(log)
     }

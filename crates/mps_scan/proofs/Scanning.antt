@@ -1,5 +1,5 @@
 -- The words of `scan` under parameters.
-use Rattle.std.proofs.Common.{◌≡◌, inl, inr, refl, sym, ◌∙◌, ap, subst, ℕ, true, cond, List, length, Some, Result, Ok, Err}
+use Rattle.std.proofs.Common.{◌≡◌, inl, inr, refl, sym, ◌∙◌, ap, subst, ℕ, List, length, Some, Result, Ok, Err}
 use Rattle.mp_outside.specs.Contents.{Held}
 use Rattle.mp_outside.specs.Seen.{FilesSeen, SinkSeen}
 use Rattle.mp_params.specs.Params.{IsParams, ParamsValue}
@@ -9,11 +9,10 @@ use Rattle.mp_params.proofs.Law.{reads_back}
 use Rattle.mp_text.specs.Chain.{◌>>=◌}
 use Rattle.ti_scan.specs.declared.event.Datum.{Datum}
 use Rattle.mps_inputs.specs.Answers.{IsUsage, Serves, seen}
-use Rattle.mps_inputs.specs.Inputs.{if_built, is_built, judged, parameters_in, read_as, tables_of}
+use Rattle.mps_inputs.specs.Inputs.{judged, parameters_in, read_as, tables_of}
 use Rattle.mps_inputs.specs.Setup.{positions_of, setup_for, setup_of}
 use Rattle.mps_inputs.specs.declared.fault.Fault.{Fault}
-use Rattle.mps_inputs.specs.declared.fault.Fault.TheVariants.{Usage, Parameters, NotBuilt}
-use Rattle.mps_inputs.specs.declared.fault.Part.TheVariants as part
+use Rattle.mps_inputs.specs.declared.fault.Fault.TheVariants.{Usage, Parameters}
 use Rattle.mps_inputs.specs.declared.inputs.Inputs.{Inputs}
 use Rattle.mps_inputs.proofs.NoUsage.{NoUsage, neither_usage, ok_no_usage, positions_no_usage, tables_no_usage}
 use Rattle.mps_scan.specs.Outcome.{scan_done, scan_of, scan_tables, scan_under}
@@ -37,18 +36,16 @@ asked_refused words p held is = by_event (event_asked p words) is
     by_event (Err fault) is = cc is
 
 -- the parameters, printed, are accepted as they are
-read_back : (p : ParamsValue) → IsParams p → is_built p ≡ true → parameters_in (print_text p) ≡ Ok p
+read_back : (p : ParamsValue) → IsParams p → parameters_in (print_text p) ≡ Ok p
 unfolding parameters_in
-read_back p is built =
-    ap (λ (r : Result ParamsValue ParamsFault). judged Parameters r >>= if_built) (reads_back p is)
-    ∙ ap (λ b. cond b (Ok p) (Err (NotBuilt part.Parameters))) built
+read_back p is = ap (λ (r : Result ParamsValue ParamsFault). judged Parameters r) (reads_back p is)
 
 -- so words that don't fit them are refused over some files
-pub refused_somewhere : (name : List ℕ) (words : ScanWords) (p : ParamsValue) (before : FilesSeen) → IsParams p → is_built p ≡ true → IsUsage (scan_under words p) before → (held : Held) × ((read_as parameters_in name held >>= λ p. scan_under words p held) ≡ Err Usage)
-refused_somewhere name words p before is built usage =
+pub refused_somewhere : (name : List ℕ) (words : ScanWords) (p : ParamsValue) (before : FilesSeen) → IsParams p → IsUsage (scan_under words p) before → (held : Held) × ((read_as parameters_in name held >>= λ p. scan_under words p held) ≡ Err Usage)
+refused_somewhere name words p before is usage =
     let held : Held = λ other. Some (print_text p) in
     let asked = asked_refused words p usage.0.0 usage.0.1 in
-    (held, ap (λ (r : Result ParamsValue Fault). r >>= λ p. scan_under words p held) (read_back p is built) ∙ ap (λ (r : Result (List Datum) Fault). r >>= λ event. scan_tables words.level p event held) asked)
+    (held, ap (λ (r : Result ParamsValue Fault). r >>= λ p. scan_under words p held) (read_back p is) ∙ ap (λ (r : Result (List Datum) Fault). r >>= λ event. scan_tables words.level p event held) asked)
 
 -- Words that don't fit, before any table is read.
 pub words_refused : (words : ScanWords) (p : ParamsValue) (files : FilesSeen) (out : SinkSeen) (fault : Fault) → IsUnfit p words fault → Serves (scan_under words p) (seen files out) (seen files out) (Err fault)

@@ -2,11 +2,14 @@
 use Rattle.std.specs.Prelude.{◌≡◌, ◌⊎◌, ℕ, List, length, Result, Err, ok_or}
 use Rattle.mp_params.specs.Params.{ParamsValue}
 use Rattle.mp_values.specs.declared.choice.StoreChoice.{StoreChoice}
-use Rattle.search_tree.specs.Prefixes.{all_prefixes}
+use Rattle.mp_values.specs.declared.choice.StoreChoice.TheVariants.{Tree, List as Listed}
+use Rattle.pattern_store.specs.Prefixes.{distinct_patterns}
+use Rattle.search_tree.specs.Nodes.{all_prefixes}
 use Rattle.seq_engine.specs.Realisation.{source_of}
 use Rattle.seq_engine.specs.declared.setup.Setup.{Setup}
 use Rattle.template_order.specs.Radii.{radii_in}
 use Rattle.template_order.specs.Template.{template_of}
+use Rattle.ti_scan.specs.Event.{Source}
 use Rattle.ti_scan.specs.declared.event.Datum.{Datum}
 use Rattle.mps_scan.specs.Text.{scan_plan, scan_text}
 use Rattle.mps_scan.specs.Words.{event_for}
@@ -26,6 +29,11 @@ event_asked p words = ok_or (event_for p.levels (positions_in p) p.categories wo
 abbrev pub IsUnfit : ParamsValue → ScanWords → Fault → Type 0
 IsUnfit p words fault = (fault ≡ OutOfMemory) ⊎ ((fault ≡ Usage) × (event_asked p words ≡ Err Usage))
 
--- what is told of an event at a level, by the nodes of the level's search tree
+-- how large a store is: the nodes of the tree, or the entries of the list
+abbrev pub size_of : StoreChoice → Source → ℕ
+size_of Tree source = all_prefixes source
+size_of Listed source = distinct_patterns source
+
+-- what is told of an event at a level, by the level's store
 abbrev pub level_text : StoreChoice → Setup → ℕ → List Datum → List ℕ
-level_text store s level event = scan_text store (all_prefixes (source_of s level)) (scan_plan s level) event
+level_text store s level event = scan_text store (size_of store (source_of s level)) (scan_plan s level) event

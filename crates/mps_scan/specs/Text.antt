@@ -1,5 +1,5 @@
 -- The text of `scan`: the size of the store, the counts of each prefix of the event, and what is retained of the event.
-use Rattle.std.specs.Prelude.{◌≡◌, ℕ, ◌+◌, List, [], ◌∷◌, ◌++◌, length, take, flat_map, None, codes}
+use Rattle.std.specs.Prelude.{◌≡◌, ℕ, ◌+◌, List, [], ◌∷◌, ◌++◌, length, map, take, flat_map, None, codes}
 use Rattle.std.specs.Fmt.{decimal}
 use Rattle.std.specs.List.{range_with_len}
 use Rattle.mp_base.specs.Grid.{Field, field}
@@ -21,9 +21,17 @@ counts_text counts = codes " counts" ++ behind_spaces decimal counts
 abbrev pub store_line : StoreChoice → ℕ → List ℕ
 store_line store size = codes "store " ++ (store_text store ++ (codes " " ++ (decimal size ++ codes "\n")))
 
--- the counts of the first len data, by what is answered for each event
+-- the counts of the first len data
+abbrev pub counts_line : ℕ → List ℕ → List ℕ
+counts_line len counts = codes "prefix " ++ (decimal len ++ (counts_text counts ++ codes "\n"))
+
+-- the same by what is answered for each event
 abbrev pub prefix_line : (List Datum → List ℕ) → List Datum → ℕ → List ℕ
-prefix_line gives event len = codes "prefix " ++ (decimal len ++ (counts_text (gives (take len event)) ++ codes "\n"))
+prefix_line gives event len = counts_line len (gives (take len event))
+
+-- the first data of an event, from none to all
+abbrev pub prefixes_of : List Datum → List (List Datum)
+prefixes_of event = map (λ len. take len event) (range_with_len 0 (length event + 1))
 
 -- a line for each prefix, from the empty one to the whole event
 abbrev pub prefix_lines : (List Datum → List ℕ) → List Datum → List ℕ

@@ -1,6 +1,5 @@
 // The command `scan`.
-ghost use Rattle.std.specs.Prelude.{◌≡◌, ◌≤◌, IfErr, IfOk, None, Ok, length, true};
-ghost use Rattle.mp_values.specs.declared.choice.StoreChoice.TheVariants as stores;
+ghost use Rattle.std.specs.Prelude.{◌≡◌, ◌≤◌, IfErr, IfOk, None, Ok, length};
 ghost use Rattle.mp_params.specs.Params.{IsParams};
 ghost use Rattle.mp_outside.specs.Seen.{FilesSeen};
 ghost use Rattle.multigrid.specs.Levels.{IsLevel};
@@ -8,13 +7,13 @@ ghost use Rattle.seq_engine.specs.Realisation.{level_positions};
 ghost use Rattle.seq_engine.specs.Setup.{IsSetup};
 ghost use Rattle.ti_scan.specs.Event.{IsEvent};
 ghost use Rattle.mps_inputs.specs.Answers.{Ends, IsRefusal, Serves, seen};
-ghost use Rattle.mps_inputs.specs.Inputs.{IsInputs, codes_in, is_built};
+ghost use Rattle.mps_inputs.specs.Inputs.{IsInputs, codes_in};
 ghost use Rattle.mps_scan.specs.Outcome.{scan_of, scan_outcome, scan_tables, scan_under as scan_under_words};
 ghost use Rattle.mps_scan.specs.Scanning.{IsUnfit, event_asked as event_asked_for, level_text as level_text_of, positions_in};
 
+use crate::counting::counted_text;
 use crate::fit::fitting_event;
 use crate::plan::plan_of_level;
-use crate::text::push_scan_text;
 use crate::words::ScanWords;
 use event_retrieve::PlanError;
 use mp_base::{Codes, NoMemory};
@@ -22,16 +21,17 @@ use mp_outside::{Files, Sink};
 use mp_params::Params;
 use mps_inputs::{Fault, Inputs, Name, codes_of, judge, read_parameters, read_tables, report};
 use multigrid::stretched;
-use search_tree::SearchTree;
 use seq_engine::Setup;
 use std::alloc::Global;
+use std::thread::Threads;
 use template_order::Template;
 use ti_scan::{Eroded, Event};
 
 /// Reads and judges the inputs of a run, and tells on `out` how often an event has replicates at a
 /// level. Words that don't fit the parameters are refused before the image is read. It makes no
 /// file.
-pub fn scan<F: Files, O: Sink>(
+pub fn scan<R: Threads + Sync, F: Files, O: Sink>(
+    rt: &R,
     alloc: Global,
     files: &mut F,
     out: &mut O,
@@ -42,25 +42,34 @@ pub fn scan<F: Files, O: Sink>(
     ensures { Serves (scan_outcome parameters.now words.now) (seen (F.seen files.old) (O.seen out.old)) (seen (F.seen files.new) (O.seen out.new)) result }
 {
     let parameters = read_parameters(alloc, files, parameters)?;
-    scan_under(alloc, files, out, parameters, words)
+    scan_under(rt, alloc, files, out, parameters, words)
 }
 
 // Serves the words under accepted parameters.
-fn scan_under<F: Files, O: Sink>(
+fn scan_under<R: Threads + Sync, F: Files, O: Sink>(
+    rt: &R,
     alloc: Global,
     files: &mut F,
     out: &mut O,
     parameters: Params,
     words: &ScanWords,
 ) -> Result<(), Fault>
-    requires built { is_built parameters ≡ true }
     requires level { IsLevel words.now.level }
     ensures params { IsParams parameters }
     ensures serves { Serves (scan_under_words words.now parameters) (seen (F.seen files.old) (O.seen out.old)) (seen (F.seen files.new) (O.seen out.new)) result }
 {
     let codes = codes_of(&parameters);
     let event = event_asked(alloc, &parameters, &codes, words)?;
-    scan_event(alloc, files, out, parameters, codes, words.level, &event)
+    scan_event(
+        rt,
+        alloc,
+        files,
+        out,
+        parameters,
+        codes,
+        words.level,
+        &event,
+    )
 }
 
 // The event that the words ask for, or the fault that they don't fit.
@@ -85,7 +94,8 @@ fn event_asked(
 }
 
 // Reads the tables, and tells of the event.
-fn scan_event<F: Files, O: Sink>(
+fn scan_event<R: Threads + Sync, F: Files, O: Sink>(
+    rt: &R,
     alloc: Global,
     files: &mut F,
     out: &mut O,
@@ -94,7 +104,6 @@ fn scan_event<F: Files, O: Sink>(
     level: u8,
     event: &Event,
 ) -> Result<(), Fault>
-    requires built { is_built parameters ≡ true }
     requires codes { codes ≡ codes_in parameters }
     requires some { 1 ≤ level }
     requires most { level ≤ parameters.levels }
@@ -102,11 +111,12 @@ fn scan_event<F: Files, O: Sink>(
     ensures { Serves (scan_tables level parameters event.now) (seen (F.seen files.old) (O.seen out.old)) (seen (F.seen files.new) (O.seen out.new)) result }
 {
     let inputs = read_tables(alloc, files, parameters, codes)?;
-    tell_event(alloc, out, inputs, level, event)
+    tell_event(rt, alloc, out, inputs, level, event)
 }
 
 // Tells of the event on `out`.
-fn tell_event<O: Sink>(
+fn tell_event<R: Threads + Sync, O: Sink>(
+    rt: &R,
     alloc: Global,
     out: &mut O,
     inputs: Inputs,
@@ -119,12 +129,18 @@ fn tell_event<O: Sink>(
     requires event { IsEvent (positions_in inputs.parameters) event.now }
     ensures { (files : FilesSeen) → Ends (scan_of level event.now inputs) (seen files (O.seen out.old)) (seen files (O.seen out.new)) result }
 {
-    let text = event_text(alloc, inputs, level, event)?;
+    let text = event_text(rt, alloc, inputs, level, event)?;
     report(out, &text)
 }
 
 // The text that tells of the event, where the image has enough eroded positions at all levels.
-fn event_text(alloc: Global, inputs: Inputs, level: u8, event: &Event) -> Result<Vec<u8>, Fault>
+fn event_text<R: Threads + Sync>(
+    rt: &R,
+    alloc: Global,
+    inputs: Inputs,
+    level: u8,
+    event: &Event,
+) -> Result<Vec<u8>, Fault>
     requires inputs { IsInputs inputs }
     requires some { 1 ≤ level }
     requires most { level ≤ inputs.parameters.levels }
@@ -133,26 +149,29 @@ fn event_text(alloc: Global, inputs: Inputs, level: u8, event: &Event) -> Result
     ensures fault { IfErr result (IsRefusal (scan_of level event.now inputs)) }
 {
     let judged = judge(alloc, inputs)?;
-    Ok(level_text(alloc, &judged.setup, level, event)?)
+    Ok(level_text(rt, alloc, &judged.parameters, &judged.setup, level, event)?)
 }
 
 // The text of an event at a level that has enough eroded positions.
-fn level_text(alloc: Global, setup: &Setup, level: u8, event: &Event) -> Result<Vec<u8>, NoMemory>
+fn level_text<R: Threads + Sync>(
+    rt: &R,
+    alloc: Global,
+    parameters: &Params,
+    setup: &Setup,
+    level: u8,
+    event: &Event,
+) -> Result<Vec<u8>, NoMemory>
     requires setup { IsSetup setup.now }
     requires level { IsLevel level }
     requires enough { setup.now.min_replicates ≤ length (level_positions setup.now level) }
     requires event { IsEvent (length setup.now.template.vectors) event.now }
-    ensures { IfOk result (λ text. text.items ≡ level_text_of stores.Tree setup.now level event.now) }
+    ensures { IfOk result (λ text. text.items ≡ level_text_of parameters.now.store setup.now level event.now) }
 {
     let template = stretched(alloc, &setup.template, level)?;
     let eroded = Eroded::new(alloc, &setup.image, &template, setup.cats)?;
-    let tree = SearchTree::build(alloc, &eroded)?;
-    let plan = match plan_of_level(alloc, setup, level, &eroded) {
-        Ok(plan) => plan,
-        Err(PlanError::NoMemory) => return Err(NoMemory),
+    match plan_of_level(alloc, setup, level, &eroded) {
+        Ok(plan) => counted_text(rt, alloc, parameters.store, &plan, event),
+        Err(PlanError::NoMemory) => Err(NoMemory),
         Err(PlanError::TooFewPositions { .. }) => unreachable!(),
-    };
-    let mut text = Vec::new(alloc);
-    push_scan_text(&mut text, tree.nodes(), &plan, event, &tree)?;
-    Ok(text)
+    }
 }

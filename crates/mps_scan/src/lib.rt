@@ -4,6 +4,7 @@
 
 mod coded;
 mod command;
+mod counting;
 mod fit;
 mod plan;
 #[cfg(test)]

@@ -8,6 +8,7 @@ use mp_outside::{MemFiles, MemSink};
 use mps_inputs::Name;
 use std::alloc::Global;
 use std::test::Fail;
+use std::thread::Threads;
 use ti_scan::Datum;
 
 fn coded(position: u8, code: i32) -> CodedDatum {
@@ -121,11 +122,15 @@ fn codes_stand_for_the_indices_of_categories(rt: HostRuntime) -> Result<(), Fail
 const SIX_CELLS: &str =
     "image = t6.dat\nimage_shape = 6 1 1\ncategories = 0 1\ngrid = 4 1 1\nradii = 1 0 0\ntemplate = 2\nmin_replicates = 1\noutput = out.dat\n";
 
+const SIX_CELLS_BY_LIST: &str =
+    "image = t6.dat\nimage_shape = 6 1 1\ncategories = 0 1\ngrid = 4 1 1\nradii = 1 0 0\ntemplate = 2\nmin_replicates = 1\nstore = list\noutput = out.dat\n";
+
 const EIGHT_CELLS: &str =
     "image = t8.dat\nimage_shape = 8 1 1\ncategories = 0 1\ngrid = 5 1 1\nradii = 2 0 0\ntemplate = 4\nmin_replicates = 2\noutput = out.dat\n";
 
 // Whether a scan over files of these bytes tells this text of an event at the level 1.
 fn tells(
+    rt: &(impl Threads + Sync),
     alloc: Global,
     parameters: &str,
     image: (&str, &[u8]),
@@ -139,7 +144,7 @@ fn tells(
         return Ok(false);
     };
     let mut out = MemSink::new(alloc);
-    let answer = scan(alloc, &mut files, &mut out, &Name::new("p"), &words);
+    let answer = scan(rt, alloc, &mut files, &mut out, &Name::new("p"), &words);
     Ok(answer.is_ok() && out.bytes() == text.as_bytes())
 }
 
@@ -155,6 +160,12 @@ fn a_scan_tells_the_replicates_of_an_event(rt: HostRuntime) -> Result<(), Fail> 
             "store tree 6\nprefix 0 counts 1 3\nprefix 1 counts 1 1\nretained 1 reach 2 counts 1 1\n",
         ),
         (
+            SIX_CELLS_BY_LIST,
+            ("t6.dat", six),
+            "1=1",
+            "store list 3\nprefix 0 counts 1 3\nprefix 1 counts 1 1\nretained 1 reach 2 counts 1 1\n",
+        ),
+        (
             EIGHT_CELLS,
             ("t8.dat", eight),
             "1=0,3=1",
@@ -162,7 +173,7 @@ fn a_scan_tells_the_replicates_of_an_event(rt: HostRuntime) -> Result<(), Fail> 
         ),
     ] {
         assert!(rt;
-            tells(rt.alloc(), parameters, image, event, text)?,
+            tells(&rt, rt.alloc(), parameters, image, event, text)?,
             "of {event}"
         );
     }

@@ -36,7 +36,7 @@ outcome_for (Run name workers) held = run_outcome name held
 outcome_for (Check name) held = inputs_of name held >>= check_of
 outcome_for (Scan name words) held = scan_outcome name words held
 outcome_for (Replay name schedule) held = replay_outcome name schedule held
-outcome_for (Demo seed) held = demo_outcome seed
+outcome_for (Demo seed by_list) held = demo_outcome seed
 
 -- the outcome of any words
 abbrev pub outcome_of : List (List ℕ) → Held → Result Done Fault

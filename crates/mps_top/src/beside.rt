@@ -12,9 +12,9 @@ ghost use denote.Param.Send.{IsSync};
 use event_retrieve::LevelPlan;
 use mp_base::{Entry, NoMemory};
 use mp_outside::{Files, Sink};
-use mps_inputs::{Fault, Inputs, Name, judge, read_inputs};
+use mps_inputs::{Fault, Inputs, Name, judge, kind_for, read_inputs};
 use mps_run::write_run;
-use seq_engine::{Store, StoreKind, Stores};
+use seq_engine::{Store, Stores};
 use spec_run::{Workers, run_level_by};
 use std::alloc::Global;
 use std::sync::Wait;
@@ -55,7 +55,7 @@ fn run_inputs_beside<R: Threads + Wait + Sync, F: Files, O: Sink, G: Gate>(
     ensures { Ends (run_of inputs) (seen (F.seen files.old) (O.seen out.old)) (seen (F.seen files.new) (O.seen out.new)) result }
 {
     let judged = judge(alloc, inputs)?;
-    let mut stores = Stores::new(StoreKind::Tree);
+    let mut stores = Stores::new(kind_for(&judged.parameters));
     stores.prepare(rt, alloc, &judged.setup, workers);
     let window = judged.parameters.window;
     let simulate = |alloc: Global, plan: &LevelPlan<'_>, store: Store<'_>| -> Result<
@@ -69,6 +69,6 @@ fn run_inputs_beside<R: Threads + Wait + Sync, F: Files, O: Sink, G: Gate>(
         ensures log { IfOk result (λ log. log.items ≡ sequential plan.now) }
         ensures cats { IfOk result (λ log. All (λ e. e.cat < plan.now.source.cats) log.items) }
     { run_level_by(rt, alloc, plan, &store, gate, workers, window) };
-    let mut runner = Workers::new(stores, simulate);
+    let mut runner = Workers::new(rt, stores, simulate);
     write_run(alloc, files, out, judged, &mut runner)
 }

@@ -13,7 +13,9 @@ use crate::beside::run_beside;
 use crate::check::check;
 use mp_outside::{Files, NoFaultFiles, NoFaultSink, Sink};
 use mps_demo::demo;
-use mps_inputs::{Fault, Inputs, Name, fault_line, fault_status, judge, read_inputs, status};
+use mps_inputs::{
+    Fault, Inputs, Name, fault_line, fault_status, judge, kind_for, read_inputs, status,
+};
 use mps_replay::replay;
 use mps_run::write_run;
 use mps_scan::scan;
@@ -58,7 +60,7 @@ pub fn answer<R: Threads + Wait + Sync, F: Files, O: Sink, E: Sink, G: Gate>(
 /// on `out`. Only where a read, a write or a write to `out` failed in this call it may be 3, 4 or 9,
 /// and 8 wherever memory ran out. No file but the command's output is changed. A fault's line is added
 /// to `err`: the whole line, or a front of it where that write failed, or nothing for want of memory.
-pub fn answer_alone<R: Threads, F: Files, O: Sink, E: Sink>(
+pub fn answer_alone<R: Threads + Sync, F: Files, O: Sink, E: Sink>(
     rt: &R,
     alloc: Global,
     words: &[String],
@@ -83,7 +85,7 @@ pub fn answer_alone<R: Threads, F: Files, O: Sink, E: Sink>(
 
 /// The same over files and sinks that never fail: the command's outcome, or want of memory, and on
 /// status 0 exactly its texts.
-pub fn answer_in_memory<R: Threads>(
+pub fn answer_in_memory<R: Threads + Sync>(
     rt: &R,
     alloc: Global,
     words: &[String],
@@ -138,7 +140,7 @@ fn serve_command_beside<R: Threads + Wait + Sync, F: Files, O: Sink, G: Gate>(
 }
 
 // Serves the command that the words are, on one thread.
-fn serve<R: Threads, F: Files, O: Sink>(
+fn serve<R: Threads + Sync, F: Files, O: Sink>(
     rt: &R,
     alloc: Global,
     words: &[String],
@@ -156,7 +158,7 @@ fn serve<R: Threads, F: Files, O: Sink>(
 }
 
 // Serves a command on one thread.
-fn serve_command<R: Threads, F: Files, O: Sink>(
+fn serve_command<R: Threads + Sync, F: Files, O: Sink>(
     rt: &R,
     alloc: Global,
     command: &Command,
@@ -169,17 +171,26 @@ fn serve_command<R: Threads, F: Files, O: Sink>(
     match command {
         Command::Run { parameters, .. } => run(rt, alloc, files, out, parameters),
         Command::Check { parameters } => check(alloc, files, out, parameters),
-        Command::Scan { parameters, words } => scan(alloc, files, out, parameters, words),
+        Command::Scan { parameters, words } => scan(rt, alloc, files, out, parameters, words),
         Command::Replay {
             parameters,
             schedule,
         } => replay(rt, alloc, files, out, parameters, schedule),
-        Command::Demo { seed } => demo(rt, alloc, out, *seed),
+        Command::Demo { seed, by_list } => demo(rt, alloc, out, *seed, demo_kind(*by_list)),
+    }
+}
+
+// How `demo` counts replicates.
+fn demo_kind(by_list: bool) -> StoreKind {
+    if by_list {
+        StoreKind::List
+    } else {
+        StoreKind::Tree
     }
 }
 
 // Reads and judges the inputs of a run, and then runs them.
-fn run<R: Threads, F: Files, O: Sink>(
+fn run<R: Threads + Sync, F: Files, O: Sink>(
     rt: &R,
     alloc: Global,
     files: &mut F,
@@ -193,7 +204,7 @@ fn run<R: Threads, F: Files, O: Sink>(
 }
 
 // Judges accepted inputs. What runs their levels is made behind that, by the parameters.
-fn run_inputs<R: Threads, F: Files, O: Sink>(
+fn run_inputs<R: Threads + Sync, F: Files, O: Sink>(
     rt: &R,
     alloc: Global,
     files: &mut F,
@@ -204,7 +215,7 @@ fn run_inputs<R: Threads, F: Files, O: Sink>(
     ensures { Ends (run_of inputs) (seen (F.seen files.old) (O.seen out.old)) (seen (F.seen files.new) (O.seen out.new)) result }
 {
     let judged = judge(alloc, inputs)?;
-    let mut runner = OneThread::new(rt, StoreKind::Tree);
+    let mut runner = OneThread::new(rt, kind_for(&judged.parameters));
     write_run(alloc, files, out, judged, &mut runner)
 }
 

@@ -10,4 +10,4 @@ mod tests;
 mod texts;
 
 pub use calls::{answer, answer_alone, answer_in_memory, refuse};
-pub use mps_inputs::{Fault, Name, Part, ScheduleFault, fault_line};
+pub use mps_inputs::{Fault, Name, ScheduleFault, fault_line};

@@ -55,7 +55,7 @@ struct Ended {
 }
 
 // Serves words over files, where the first write to `out` may be to fail.
-fn serve<R: Threads>(
+fn serve<R: Threads + Sync>(
     rt: &R,
     alloc: Global,
     files: &mut MemFiles,
@@ -74,7 +74,7 @@ fn two_words(alloc: Global, verb: &str, name: &str) -> Result<Vec<String>, Fail>
     Ok(words)
 }
 
-fn serve_words<R: Threads>(
+fn serve_words<R: Threads + Sync>(
     rt: &R,
     alloc: Global,
     files: &mut MemFiles,
@@ -160,15 +160,15 @@ fn demo_setup(alloc: Global) -> Result<Setup, NoMemory>
     }
 }
 
-// Realisation 0 by one thread.
-fn by_one<R: Threads>(rt: &R, alloc: Global, setup: &Setup) -> Result<Grid, NoMemory>
+// Realisation 0 by one thread and the search tree.
+fn by_one<R: Threads + Sync>(rt: &R, alloc: Global, setup: &Setup) -> Result<Grid, NoMemory>
     requires { IsSetup setup.now }
 {
     let mut runner = OneThread::new(rt, StoreKind::Tree);
     run_realisation(alloc, setup, 0, &mut runner).map_err(|_| NoMemory)
 }
 
-// Realisation 0 by four workers.
+// Realisation 0 by four workers and the list.
 fn by_four<R: Threads + Wait + Sync>(rt: &R, alloc: Global, setup: &Setup) -> Result<Grid, NoMemory>
     requires { IsSetup setup.now }
 {
@@ -181,7 +181,7 @@ fn by_four<R: Threads + Wait + Sync>(rt: &R, alloc: Global, setup: &Setup) -> Re
         ensures log { IfOk result (λ log. log.items ≡ sequential plan.now) }
         ensures cats { IfOk result (λ log. All (λ (e : EntryOf). e.cat < plan.now.source.cats) log.items) }
     { run_level_by(rt, alloc, plan, &store, &OpenGate, 4, 64) };
-    let mut runner = Workers::new(Stores::new(StoreKind::Tree), simulate);
+    let mut runner = Workers::new(rt, Stores::new(StoreKind::List), simulate);
     run_realisation(alloc, setup, 0, &mut runner).map_err(|_| NoMemory)
 }
 
@@ -368,7 +368,6 @@ fn a_refused_line_of_parameters_is_told(rt: HostRuntime) -> Result<(), Fail> {
         ("grid = 4 1 1\n", "line 9: key given twice\n"),
         ("weight = 1\n", "line 9: unknown key\n"),
         ("missing = 1\n", "missing code is a category\n"),
-        ("store = list\n", "form not built yet\n"),
     ] {
         let parameters = format!(in rt.alloc(); "{PARAMETERS}{more}")?;
         let told = format!(in rt.alloc(); "mpsim: parameters: {line}")?;
@@ -487,7 +486,7 @@ fn scan_files(alloc: Global) -> Result<MemFiles, Fail> {
 }
 
 // Serves `scan` over files, where the first write to `out` may be to fail.
-fn scan<R: Threads>(
+fn scan<R: Threads + Sync>(
     rt: &R,
     alloc: Global,
     files: &mut MemFiles,
@@ -550,7 +549,7 @@ const FOUR_ANSWERED: &str =
     "claim 1 -> ticket 0\nfront 1 -> seen 0\nlook 1 -> unknown 1\nlook 1 -> unknown 2\ncount 1 -> counted 0 2 1 3\noffer 1 -> kept 0\nclaim 2 -> ticket 1\nfront 2 -> seen 0\nlook 2 -> unknown 1\nlook 2 -> unknown 2\ncount 2 -> counted 0 2 1 3\noffer 2 -> kept 1\nclaim 3 -> ticket 2\nfront 3 -> seen 0\nlook 3 -> unknown 1\nlook 3 -> unknown 2\ncount 3 -> counted 0 2 1 3\noffer 3 -> kept 2\nclaim 4 -> ticket 3\nfront 4 -> seen 0\nlook 4 -> unknown 1\nlook 4 -> unknown 2\ncount 4 -> counted 0 2 1 3\noffer 4 -> kept 3\nsettle -> committed 0 0 1\nsettle -> skip\nshow -> shown 1\nsettle -> committed 1 3 0\nshow -> shown 2\nsettle -> stale 2 0 1\nforce -> recounted 2 1 2 1 1\nsettle -> committed 2 1 1\nshow -> shown 3\nsettle -> stale 3 1 2\nforce -> recounted 3 2 2 0 1\nsettle -> committed 3 2 1\nshow -> shown 4\nsettle -> ended 4\nlog 4 of 4\nrealisation 0\n1\n1\n1\n0\n";
 
 // Serves `replay` over the files of a run and these schedules.
-fn replay<R: Threads>(
+fn replay<R: Threads + Sync>(
     rt: &R,
     alloc: Global,
     parameters: &str,

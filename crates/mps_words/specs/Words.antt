@@ -16,10 +16,15 @@ texts words = map (λ word. string_bytes word) words
 
 -- ---- the words behind the command's name
 
--- a word in its place, or the number of an option `--workers`
+-- an option: `--workers` with its number, or the flag `--list`
+pub data Choice : Type 0 where
+  worker_number : List ℕ → Choice
+  by_list : Choice
+
+-- a word in its place, or an option
 pub data Part : Type 0 where
   placed : List ℕ → Part
-  worker_number : List ℕ → Part
+  chosen : Choice → Part
 
 -- the word begins with a dash and has more than one byte
 abbrev pub is_dashed : List ℕ → Bool
@@ -30,34 +35,39 @@ is_dashed _ = false
 abbrev pub is_workers : List ℕ → Bool
 is_workers word = bytes_eq (before_first is_equals word) (codes "--workers")
 
+-- the word is `--list`, alone: it takes no value
+abbrev pub is_list : List ℕ → Bool
+is_list word = bytes_eq word (codes "--list")
+
 -- a part, and those behind it if they are parts
 abbrev pub part_before : Part → Option (List Part) → Option (List Part)
 part_before part = option_map (λ parts. part ∷ parts)
 
 -- what the words are, in turn. The first `--` is no part, and all words behind it are in their places. The number of `--workers` stands
 -- behind its `=`, or where it has none in the next word, for which `wanted` is true: a dashed word is refused there, and a dash alone
--- when it is read as a number. Other dashed words are refused.
+-- when it is read as a number. Dashed words that are no option, an option cut short too, are refused.
 unfoldable pub parts_from : Bool → List (List ℕ) → Option (List Part)
 parts_from wanted [] = if wanted then None else Some []
 parts_from wanted (word ∷ rest) =
-    if not (is_dashed word) then part_before (if wanted then worker_number word else placed word) (parts_from false rest)
+    if not (is_dashed word) then part_before (if wanted then chosen (worker_number word) else placed word) (parts_from false rest)
     else if wanted then None
     else if bytes_eq word (codes "--") then Some (map placed rest)
+    else if is_list word then part_before (chosen by_list) (parts_from false rest)
     else if not (is_workers word) then None
-    else if list_any is_equals word then part_before (worker_number (after_first is_equals word)) (parts_from false rest)
+    else if list_any is_equals word then part_before (chosen (worker_number (after_first is_equals word))) (parts_from false rest)
     else parts_from true rest
 
 -- the words in their places
 abbrev pub placed_words : List Part → List (List ℕ)
 placed_words [] = []
 placed_words (placed word ∷ parts) = word ∷ placed_words parts
-placed_words (worker_number number ∷ parts) = placed_words parts
+placed_words (chosen choice ∷ parts) = placed_words parts
 
--- the numbers of the options
-abbrev pub worker_numbers : List Part → List (List ℕ)
-worker_numbers [] = []
-worker_numbers (placed word ∷ parts) = worker_numbers parts
-worker_numbers (worker_number number ∷ parts) = number ∷ worker_numbers parts
+-- the options
+abbrev pub choices : List Part → List Choice
+choices [] = []
+choices (placed word ∷ parts) = choices parts
+choices (chosen choice ∷ parts) = choice ∷ choices parts
 
 -- ---- names and numbers
 
@@ -80,37 +90,38 @@ workers_of text = up_to 64 (short_number 4 text)
 abbrev pub seed_of : List ℕ → Option ℕ
 seed_of text = option_and_then (where_so (is_between 0 4294967295)) (short_number 10 text)
 
--- ---- the commands, each of the numbers of its options and of its words in their places
+-- ---- the commands, each of its options and of its words in their places. Of an option that isn't said here a command knows nothing
 
 -- `run` takes a parameter file, and at most one number of workers; without it there is one
-abbrev pub run_of : List (List ℕ) → List (List ℕ) → Option Command
+abbrev pub run_of : List Choice → List (List ℕ) → Option Command
 run_of [] (name ∷ []) = option_map (λ parameters. Run parameters 1) (name_of name)
-run_of (number ∷ []) (name ∷ []) = option_and_then (λ parameters. option_map (Run parameters) (workers_of number)) (name_of name)
+run_of (worker_number number ∷ []) (name ∷ []) = option_and_then (λ parameters. option_map (Run parameters) (workers_of number)) (name_of name)
 run_of _ _ = None
 
 -- `check` takes a parameter file
-abbrev pub check_of : List (List ℕ) → List (List ℕ) → Option Command
+abbrev pub check_of : List Choice → List (List ℕ) → Option Command
 check_of [] (name ∷ []) = option_map Check (name_of name)
 check_of _ _ = None
 
 -- `scan` takes a parameter file, a level and an event
-abbrev pub scan_of : List (List ℕ) → List (List ℕ) → Option Command
+abbrev pub scan_of : List Choice → List (List ℕ) → Option Command
 scan_of [] (name ∷ level ∷ event ∷ []) = option_and_then (λ parameters. option_map (Scan parameters) (scan_words level event)) (name_of name)
 scan_of _ _ = None
 
 -- `replay` takes a parameter file and a schedule
-abbrev pub replay_of : List (List ℕ) → List (List ℕ) → Option Command
+abbrev pub replay_of : List Choice → List (List ℕ) → Option Command
 replay_of [] (name ∷ schedule ∷ []) = option_and_then (λ parameters. option_map (Replay parameters) (name_of schedule)) (name_of name)
 replay_of _ _ = None
 
--- `demo` takes a seed
-abbrev pub demo_of : List (List ℕ) → List (List ℕ) → Option Command
-demo_of [] (seed ∷ []) = option_map Demo (seed_of seed)
+-- `demo` takes a seed, and at most once the flag `--list`
+abbrev pub demo_of : List Choice → List (List ℕ) → Option Command
+demo_of [] (seed ∷ []) = option_map (λ number. Demo number false) (seed_of seed)
+demo_of (by_list ∷ []) (seed ∷ []) = option_map (λ number. Demo number true) (seed_of seed)
 demo_of _ _ = None
 
 -- a command of the words behind its name
-abbrev pub command_by : (List (List ℕ) → List (List ℕ) → Option Command) → List (List ℕ) → Option Command
-command_by command_of_parts words = option_and_then (λ parts. command_of_parts (worker_numbers parts) (placed_words parts)) (parts_from false words)
+abbrev pub command_by : (List Choice → List (List ℕ) → Option Command) → List (List ℕ) → Option Command
+command_by command_of_parts words = option_and_then (λ parts. command_of_parts (choices parts) (placed_words parts)) (parts_from false words)
 
 abbrev pub command_named : List ℕ → List (List ℕ) → Option Command
 command_named name words =
@@ -142,4 +153,4 @@ IsInRange (Run parameters workers) = (1 ≤ workers) × (workers ≤ 64)
 IsInRange (Check parameters) = ⊤
 IsInRange (Scan parameters words) = IsLevel words.level
 IsInRange (Replay parameters schedule) = ⊤
-IsInRange (Demo seed) = seed ≤ 4294967295
+IsInRange (Demo seed flag) = seed ≤ 4294967295

@@ -3,7 +3,7 @@ ghost use Rattle.std.specs.Prelude.{◌≡◌, IfOk, true, false};
 ghost use Rattle.clap.specs.Faults.{is_simple_and_free};
 ghost use Rattle.clap.specs.Simple.{app_of};
 ghost use Rattle.clap.specs.Walk.{rule_of};
-ghost use Rattle.mps_words.specs.Forms.{Finds, check_app, demo_app, place, plain_app, replay_app, run_app, scan_app, workers_option};
+ghost use Rattle.mps_words.specs.Forms.{Finds, check_app, demo_app, list_option, place, plain_app, replay_app, run_app, scan_app, workers_option};
 ghost use Rattle.mps_words.specs.Words.{texts};
 
 use clap::error::ErrorKind;
@@ -46,11 +46,13 @@ pub(crate) fn replay_form<'a>(alloc: Global) -> Result<clap::Command<'a>, AllocE
         .arg(place(alloc, "schedule"))
 }
 
-/// `demo`: a seed.
+/// `demo`: a seed, and perhaps the flag `--list`.
 pub(crate) fn demo_form<'a>(alloc: Global) -> Result<clap::Command<'a>, AllocError>
     ensures { IfOk result (λ form. app_of form ≡ demo_app) }
 {
-    plain_form(alloc, "demo").arg(place(alloc, "seed"))
+    plain_form(alloc, "demo")
+        .arg(place(alloc, "seed"))?
+        .arg(list_option(alloc))
 }
 
 // A command that takes all words that it is given as its own, and knows none of help or version.
@@ -79,6 +81,16 @@ fn workers_option<'a>(alloc: Global) -> Arg<'a>
     Arg::new(alloc, "workers")
         .long("workers")
         .action(ArgAction::Set)
+}
+
+// `--list`, without a value.
+fn list_option<'a>(alloc: Global) -> Arg<'a>
+    ensures rule { rule_of result ≡ list_option }
+    ensures local { result.global ≡ false }
+{
+    Arg::new(alloc, "list")
+        .long("list")
+        .action(ArgAction::SetTrue)
 }
 
 /// What the command finds among the words, or nothing exactly where it refuses them.

@@ -26,9 +26,26 @@ fn told(alloc: Global, command: &Command) -> Result<String, Fail> {
             parameters,
             schedule,
         } => { format!(in alloc; "replay {} by {}", parameters.as_str(), schedule.as_str())? }
-        Command::Demo { seed } => format!(in alloc; "demo {seed}")?,
+        Command::Demo {
+            seed,
+            by_list: false,
+        } => format!(in alloc; "demo {seed}")?,
+        Command::Demo {
+            seed,
+            by_list: true,
+        } => format!(in alloc; "demo {seed} by list")?,
     };
     Ok(line)
+}
+
+// The command that the words of a line are, as a line of its own.
+fn answer_to(alloc: Global, line: &str) -> Result<String, Fail> {
+    let words = words_of(alloc, line)?;
+    match command_of(alloc, words.as_slice()) {
+        Ok(Some(command)) => told(alloc, &command),
+        Ok(None) => Ok(String::from_str(alloc, "none")?),
+        Err(_) => Ok(String::from_str(alloc, "no memory")?),
+    }
 }
 
 #[test]
@@ -44,6 +61,9 @@ fn words_are_a_command_or_none(rt: HostRuntime) -> Result<(), Fail> {
         ("scan p1 8 1=0,3=-1", "scan p1 at 8"),
         ("replay p1 -- -s", "replay p1 by -s"),
         ("demo 4294967295", "demo 4294967295"),
+        ("demo 7 --list", "demo 7 by list"),
+        ("demo --list 7", "demo 7 by list"),
+        ("demo --list -- 7", "demo 7 by list"),
         ("", "none"),
         ("run", "none"),
         ("run p1 p1", "none"),
@@ -53,22 +73,19 @@ fn words_are_a_command_or_none(rt: HostRuntime) -> Result<(), Fail> {
         ("run --workers - p1", "none"),
         ("run --workers=2 p1 --workers=2", "none"),
         ("run --help", "none"),
+        ("run p1 --list", "none"),
         ("check p1 --workers=2", "none"),
         ("scan p1 1", "none"),
-        ("demo 7 --list", "none"),
+        ("demo --list", "none"),
+        ("demo 7 --list --list", "none"),
+        ("demo 7 --list=1", "none"),
+        ("demo 7 --lis", "none"),
+        ("demo 7 --workers 2", "none"),
+        ("demo 7 -- --list", "none"),
         ("demo 4294967296", "none"),
         ("help run", "none"),
     ] {
-        let words = words_of(alloc, line)?;
-        match command_of(alloc, words.as_slice()) {
-            Ok(Some(command)) => assert_eq!(rt;
-                told(alloc, &command)?.as_str(),
-                wanted,
-                "of {line}"
-            ),
-            Ok(None) => assert_eq!(rt; "none", wanted, "of {line}"),
-            Err(_) => assert!(rt; false, "of {line}"),
-        }
+        assert_eq!(rt; answer_to(alloc, line)?.as_str(), wanted, "of {line}");
     }
     Ok(())
 }

@@ -1,6 +1,6 @@
 // The words of a command: which words are one, and which one.
 ghost use Rattle.std.specs.Prelude.{◌≡◌, ◌≤◌, ◌++◌, [], IfErr, IfOk, IfSome, length, option_and_then, option_map, true};
-ghost use Rattle.mps_words.specs.Forms.{listed};
+ghost use Rattle.mps_words.specs.Forms.{flagged, listed, numbered};
 ghost use Rattle.mps_words.specs.Words.{IsInRange, check_of as check_of_parts, command_by, command_named as command_named_words, command_of as command_of_words, demo_of as demo_of_parts, is_command_name, is_name as is_name_text, name_of as name_of_word, names_a_command, replay_of as replay_of_parts, run_of as run_of_parts, scan_of as scan_of_parts, seed_of as seed_of_word, texts, workers_of as workers_of_word};
 
 use crate::forms::{check_form, demo_form, found_in, replay_form, run_form, scan_form};
@@ -23,8 +23,9 @@ pub enum Command {
     Scan { parameters: Name, words: ScanWords },
     /// Simulates a realisation, one level by a schedule, and tells what its steps were answered.
     Replay { parameters: Name, schedule: Name },
-    /// Simulates over an image and wells that it makes by a seed, and tells the report.
-    Demo { seed: u32 },
+    /// Simulates over an image and wells that it makes by a seed, counted by a list of patterns or
+    /// else by a search tree, and tells the report.
+    Demo { seed: u32, by_list: bool },
 }
 
 /// The command that the words are, or nothing exactly where they are none. Memory can be wanting
@@ -75,7 +76,7 @@ fn run_of(alloc: Global, words: &[String]) -> Result<Option<Command>, NoMemory>
 
 // `run` over the value of its place and that of its option.
 fn run_over(name: Option<&str>, workers: Option<&str>) -> Option<Command>
-    ensures command { result ≡ run_of_parts (listed workers.entry) (listed name.entry) }
+    ensures command { result ≡ run_of_parts (numbered workers.entry) (listed name.entry) }
     ensures range { IfSome result IsInRange }
 {
     let parameters = name_of(name?)?;
@@ -167,18 +168,18 @@ fn demo_of(alloc: Global, words: &[String]) -> Result<Option<Command>, NoMemory>
     ensures range { IfOk result (λ command. IfSome command IsInRange) }
 {
     match found_in(demo_form(alloc)?, words)? {
-        Some(found) => Ok(demo_over(found.get_str("seed"))),
+        Some(found) => Ok(demo_over(found.get_str("seed"), found.get_flag("list"))),
         None => Ok(None),
     }
 }
 
-// `demo` over the value of its place.
-fn demo_over(seed: Option<&str>) -> Option<Command>
-    ensures command { result ≡ demo_of_parts [] (listed seed.entry) }
+// `demo` over the value of its place and its flag.
+fn demo_over(seed: Option<&str>, by_list: bool) -> Option<Command>
+    ensures command { result ≡ demo_of_parts (flagged by_list) (listed seed.entry) }
     ensures range { IfSome result IsInRange }
 {
     let seed = seed_of(seed?)?;
-    Some(Command::Demo { seed })
+    Some(Command::Demo { seed, by_list })
 }
 
 // The name of a file that a word is, if it is one.

@@ -18,7 +18,8 @@ use Rattle.pattern_blocks.proofs.MarkedSums.{marked_is}
 use Rattle.pattern_blocks.proofs.Matching.{has_before, lacks_next, matched-le}
 use Rattle.pattern_blocks.proofs.Sums.{sum-same, sum-three, sum-zeros}
 use Rattle.pattern_blocks.proofs.Tallies.{adds-both, adds-none, adds-same, room-after}
-use Rattle.search_tree.specs.Groups.{SumsUp, block_total, blocks_gain, group_gain, open_gain}
+use Rattle.pattern_store.specs.Gains.{blocks_gain, group_gain}
+use Rattle.search_tree.specs.Groups.{SumsUp, block_total, open_gain}
 
 false-true : {A : Type 0} → (b : Bool) → b ≡ true → b ≡ false → A
 false-true b holds fails = absurd (differ (sym holds ∙ fails))

@@ -13,7 +13,8 @@ use Rattle.pattern_blocks.specs.Planes.{PlaneRows}
 use Rattle.pattern_blocks.specs.Tally.{Adds, HasRoom, block_gain}
 use Rattle.pattern_blocks.proofs.Sums.{sum-same, sum-zeros}
 use Rattle.pattern_blocks.proofs.Tallies.{adds-both, adds-none, adds-same, room-after}
-use Rattle.search_tree.specs.Groups.{blocks_gain, open_gain}
+use Rattle.pattern_store.specs.Gains.{blocks_gain}
+use Rattle.search_tree.specs.Groups.{open_gain}
 
 -- a sum in which one term is larger
 pub sum-changed : (f h : ℕ → ℕ) (a n at more : ℕ) → a ≤ at → at < a + n → ((s : ℕ) → a ≤ s → s < a + n → (s ≡ at → ⊥) → h s ≡ f s) → h at ≡ f at + more → sum_by h (range_with_len a n) ≡ sum_by f (range_with_len a n) + more

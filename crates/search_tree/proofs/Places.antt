@@ -4,7 +4,8 @@ use Rattle.std.specs.List.{list_any, range_with_len}
 use Rattle.std.proofs.Math.Dec.{eqb}
 use Rattle.std.proofs.lemmas.Bool.{cases_lt}
 use Rattle.std.proofs.lemmas.Bool.Decides.{nat_tests}
-use Rattle.search_tree.specs.Ranks.{AreMarked, AreRanks, HaveSlots, IsRefined, is_used, place_slot, slots_of, used_before}
+use Rattle.pattern_store.specs.Slots.{HaveSlots, place_slot, slots_of}
+use Rattle.search_tree.specs.Ranks.{AreMarked, AreRanks, IsRefined, is_used, used_before}
 use Rattle.search_tree.proofs.Distinct.{used_many}
 use Rattle.search_tree.proofs.Ranking.{ranks-apart, used-less}
 

@@ -14,7 +14,8 @@ use Rattle.pattern_blocks.specs.Tally.{Adds, HasRoom, block_gain}
 use Rattle.pattern_blocks.proofs.Matching.{gain_nothing, matched-le}
 use Rattle.pattern_blocks.proofs.Sums.{sum-same, sum-zeros}
 use Rattle.pattern_blocks.proofs.Tallies.{adds-none, adds-same}
-use Rattle.search_tree.specs.Groups.{HoldsRest, SumsUp, blocks_gain, group_gain, open_gain}
+use Rattle.pattern_store.specs.Gains.{blocks_gain, group_gain}
+use Rattle.search_tree.specs.Groups.{HoldsRest, SumsUp, open_gain}
 
 -- a mark of both is a mark of the first
 pub first_of : (a b s : ℕ) → bit_at (bit_and a b) s ≡ 1 → bit_at a s ≡ 1

@@ -9,7 +9,8 @@ use Rattle.std.proofs.lemmas.List.Folds.{list_any-append}
 use Rattle.std.proofs.lemmas.List.FromFn.{length-range_with_len, map-range_with_len_more}
 use Rattle.std.proofs.lemmas.List.Sums.{count_by-le-length, sum_by_push}
 use Rattle.mp_base.proofs.Ranges.{range_more}
-use Rattle.search_tree.specs.Ranks.{AreMarked, is_used, place_slot, slots_of, used_before}
+use Rattle.pattern_store.specs.Slots.{place_slot, slots_of}
+use Rattle.search_tree.specs.Ranks.{AreMarked, is_used, used_before}
 
 pub used_none : (uses : List ℕ) → used_before uses 0 ≡ 0
 unfolding used_before

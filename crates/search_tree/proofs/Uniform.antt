@@ -1,10 +1,8 @@
 -- What is kept of groups is true of their blocks.
-use Rattle.std.proofs.Common.{◌≡◌, ℕ, ◌+◌, ◌-◌, ◌*◌, ◌/◌, ◌%◌, ◌^◌, ◌<◌, ◌≤◌, ◌==◌, Bool, true, false, not, cond, ◌&&◌, nat_lt, List, get_or, max, refl, ap, sym, ◌∙◌, subst, arith}
+use Rattle.std.proofs.Common.{◌≡◌, ℕ, ◌+◌, ◌-◌, ◌*◌, ◌^◌, ◌<◌, ◌≤◌, ◌==◌, Bool, true, false, not, cond, ◌&&◌, nat_lt, List, get_or, max, refl, ap, sym, ◌∙◌, subst, arith}
 use Rattle.std.specs.Int.{bit_at}
-use Rattle.std.proofs.Math.Nat.{mod-eq_of_lt, mul-add-mod_self_right}
 use Rattle.std.proofs.lemmas.Bool.{and_parts, eqb-true}
 use Rattle.std.proofs.lemmas.Bool.Decides.{nat_tests}
-use Rattle.std.proofs.lemmas.Nat.{div-mul-add}
 use Rattle.std.proofs.lemmas.Nat.Bits.{bit_at-zero, bit_at_ones}
 use Rattle.ti_scan.specs.declared.event.Datum.{Datum}
 use Rattle.pattern_blocks.specs.Making.{AreRows, AreWords, row_number}
@@ -15,22 +13,7 @@ use Rattle.pattern_blocks.proofs.Bits.{marks_all}
 use Rattle.pattern_blocks.proofs.MarkedSums.{marked_is}
 use Rattle.search_tree.specs.Groups.{SumsUp, block_total}
 use Rattle.pattern_blocks.proofs.Pairs.{row-fits}
-
-small-mod : (n w : ℕ) → n < w → n % w ≡ n
-small-mod n w less = mod-eq_of_lt less
-
-pub place_div : (g w y : ℕ) → y < w → (g * w + y) / w ≡ g
-place_div g w y small = div-mul-add g w y small
-
-pub place_mod : (g w y : ℕ) → y < w → (g * w + y) % w ≡ y
-place_mod g w y small = mul-add-mod_self_right g w y ∙ small-mod y w small
-
--- the numbers of a row stand one below the other
-pub row_place : (table : List ℕ) (g s w y : ℕ) → y < w → row_number table w (g * w + y) s ≡ get_or table ((g * 64 + s) * w + y) 0
-row_place table g s w y small =
-    ap (λ b. get_or table (b * 64 * w + (g * w + y) % w + s * w) 0) (place_div g w y small)
-    ∙ ap (λ m. get_or table (g * 64 * w + m + s * w) 0) (place_mod g w y small)
-    ∙ ap (λ i. get_or table i 0) (omega arith)
+use Rattle.pattern_store.proofs.Numbers.{row_place}
 
 not-zero : (x : ℕ) → ◌≡◌ {A = ℕ} (cond (not (x == 0)) 1 0) 0 → x ≡ 0
 not-zero x e = go (x == 0) refl e

@@ -1,23 +1,17 @@
 -- Groups of 64 blocks.
-use Rattle.std.specs.Prelude.{◌≡◌, ℕ, ◌+◌, ◌*◌, ◌<◌, ◌==◌, Bool, true, false, if◌then◌else◌, List}
+use Rattle.std.specs.Prelude.{◌≡◌, ℕ, ◌+◌, ◌*◌, ◌<◌, ◌==◌, true, false, List}
 use Rattle.std.specs.Int.{bit_at}
 use Rattle.std.specs.List.{range_with_len, sum_by}
 use Rattle.ti_scan.specs.declared.event.Datum.{Datum}
 use Rattle.pattern_blocks.specs.Rows.{BitRows, has, matched, word_at}
 use Rattle.pattern_blocks.specs.Planes.{PlaneRows}
-use Rattle.pattern_blocks.specs.Tally.{block_gain, number_of}
-
--- what those blocks of a group add to a row that pass
-unfoldable pub blocks_gain : (ℕ → Bool) → BitRows → PlaneRows → ℕ → List Datum → ℕ → ℕ → ℕ
-blocks_gain passes shown counts group event row k = sum_by (λ s. if passes s then block_gain shown counts (group * 64 + s) event row k else 0) (range_with_len 0 64)
+use Rattle.pattern_blocks.specs.Tally.{number_of}
+use Rattle.pattern_store.specs.Gains.{blocks_gain}
+use Rattle.pattern_store.specs.Store.{IsStore}
 
 -- what the marked blocks add
 abbrev pub open_gain : BitRows → PlaneRows → ℕ → ℕ → List Datum → ℕ → ℕ → ℕ
 open_gain shown counts group entered event row k = blocks_gain (λ s. bit_at entered s == 1) shown counts group event row k
-
--- what all blocks add
-abbrev pub group_gain : BitRows → PlaneRows → ℕ → List Datum → ℕ → ℕ → ℕ
-group_gain shown counts group event row k = blocks_gain (λ s. true) shown counts group event row k
 
 -- the sum of the numbers of a block
 unfoldable pub block_total : PlaneRows → ℕ → ℕ → ℕ → ℕ
@@ -32,3 +26,12 @@ pub record SumsUp (shown : BitRows) (counts : PlaneRows) (any all : BitRows) (to
   pub absent : (s u : ℕ) (d : Datum) → s < 64 → u < 64 → bit_at (word_at any group d) s ≡ 0 → has shown (group * 64 + s) u d ≡ false
   pub whole : (s u : ℕ) (d : Datum) → s < 64 → u < 64 → bit_at (word_at all group d) s ≡ 1 → has shown (group * 64 + s) u d ≡ true
   pub total : (s k : ℕ) → s < 64 → k < shown.cats → number_of totals shown.cats group k s ≡ block_total counts shown.cats (group * 64 + s) k
+
+-- so it is of each group
+abbrev pub AreSummed : BitRows → PlaneRows → BitRows → BitRows → PlaneRows → ℕ → Type 0
+AreSummed shown counts any all totals groups = (g : ℕ) → g < groups → SumsUp shown counts any all totals g
+
+-- what a tree keeps: the patterns of a store, and of each group what lets it skip blocks
+pub record IsTree (shown : BitRows) (counts : PlaneRows) (any all : BitRows) (totals : PlaneRows) (groups : ℕ) : Type 0 where
+  pub store : IsStore shown counts groups
+  pub sums : AreSummed shown counts any all totals groups

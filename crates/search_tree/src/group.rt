@@ -3,7 +3,8 @@ ghost use Rattle.std.specs.Prelude.{◌≡◌, ℕ, ◌+◌, ◌*◌, ◌≤◌,
 ghost use Rattle.std.specs.Int.{bit_at};
 ghost use Rattle.pattern_blocks.specs.Rows.{matched};
 ghost use Rattle.pattern_blocks.specs.Tally.{Adds, HasRoom};
-ghost use Rattle.search_tree.specs.Groups.{HoldsRest, SumsUp, group_gain, open_gain};
+ghost use Rattle.pattern_store.specs.Gains.{group_gain};
+ghost use Rattle.search_tree.specs.Groups.{HoldsRest, SumsUp, open_gain};
 
 use pattern_blocks::{Blocks, Planes, Rows, add_marked, items_with, tally_block};
 use ti_scan::Datum;

@@ -3,15 +3,8 @@
 //! the order of the branches: in blocks of 64 patterns, and groups of 64 blocks.
 #![tactic(auto)]
 
-mod answering;
-mod building;
-mod counting;
-mod drawing;
-mod filling;
 mod forest;
 mod group;
-mod longest;
-mod picking;
 mod placing;
 mod ranks;
 mod refining;

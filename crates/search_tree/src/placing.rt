@@ -1,11 +1,12 @@
 // The ranks of positions among the distinct patterns.
 ghost use Rattle.std.specs.Prelude.{◌≡◌, ◌+◌, ◌<◌, IfOk, OnOk, length};
 ghost use Rattle.ti_scan.specs.Eroded.{positions_of};
-ghost use Rattle.search_tree.specs.Levels.{AreShown, IsRanked};
+ghost use Rattle.pattern_store.specs.Levels.{AreShown};
+ghost use Rattle.search_tree.specs.Ranks.{IsRanked};
 
-use crate::filling::read_shown;
 use crate::refining::refine_places;
 use mp_base::NoMemory;
+use pattern_store::read_shown;
 use std::alloc::Global;
 use ti_scan::Eroded;
 

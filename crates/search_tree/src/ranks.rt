@@ -1,6 +1,9 @@
 // Ranks: numbers for the slots that have a position, in the order of the slots.
 ghost use Rattle.std.specs.Prelude.{◌≡◌, ℕ, ◌+◌, ◌*◌, ◌<◌, ◌^◌, cond, length, slice_index};
-ghost use Rattle.search_tree.specs.Ranks.{AreMarked, AreRanks, HaveSlots, place_slot, used_before};
+ghost use Rattle.pattern_store.specs.Slots.{HaveSlots, place_slot};
+ghost use Rattle.search_tree.specs.Ranks.{AreMarked, AreRanks, used_before};
+
+use pattern_store::slot;
 
 // A test as a number to add.
 fn one_if(passes: bool) -> u32
@@ -24,13 +27,6 @@ pub fn rank_slots(slots: &mut [u32]) -> u32
         next += used;
     }
     next
-}
-
-/// The slot of a place and the category that is shown next.
-pub fn slot(place: u32, cats: u8, cat: u8) -> usize
-    ensures { result ≡ place * cats + cat }
-{
-    place as usize * cats as usize + cat as usize
 }
 
 /// Marks the slots that have a position.

@@ -1,6 +1,7 @@
 // A template position more: places become ranks of longer prefixes.
 ghost use Rattle.std.specs.Prelude.{◌*◌, ◌≡◌, ◌<◌, ◌^◌, IfOk, length, replicate};
-ghost use Rattle.search_tree.specs.Ranks.{HaveSlots, IsRefined};
+ghost use Rattle.pattern_store.specs.Slots.{HaveSlots};
+ghost use Rattle.search_tree.specs.Ranks.{IsRefined};
 
 use crate::ranks::{mark_slots, rank_places, rank_slots};
 use mp_base::NoMemory;

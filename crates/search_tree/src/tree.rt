@@ -1,25 +1,23 @@
 // The search tree.
 ghost use Rattle.std.specs.Prelude.{◌≡◌, ℕ, ◌*◌, ◌<◌, ◌≤◌, ◌^◌, IfOk, length};
 ghost use Rattle.ti_scan.specs.Event.{StandsFor};
-ghost use Rattle.search_tree.specs.Building.{IsBuilt};
-ghost use Rattle.search_tree.specs.Groups.{SumsUp};
-ghost use Rattle.search_tree.specs.Levels.{IsRanked};
-ghost use Rattle.search_tree.specs.Patterns.{bits_of, pattern_counts, reach_of};
-ghost use Rattle.search_tree.specs.Prefixes.{all_prefixes};
+ghost use Rattle.pattern_store.specs.Building.{IsBuilt};
+ghost use Rattle.pattern_store.specs.Gains.{IsTallied};
+ghost use Rattle.search_tree.specs.Groups.{AreSummed, IsTree};
+ghost use Rattle.search_tree.specs.Ranks.{IsRanked};
+ghost use Rattle.search_tree.specs.Tree.{tree_bits, tree_counts, tree_reach};
+ghost use Rattle.search_tree.specs.Nodes.{all_prefixes};
 
-use crate::answering::{counts_of, longest_of};
-use crate::building::blocks_of;
+use crate::forest::tally_groups;
 use crate::group::Groups;
 use crate::placing::{Ranks, ranks_of};
 use crate::summing::groups_of;
 use mp_base::{Counts, NoMemory};
-use pattern_blocks::Blocks;
+use pattern_blocks::{Blocks, TALLY};
+use pattern_store::{PER_GROUP, blocks_of, counts_of, longest_of};
 use std::alloc::Global;
 use std::marker::Model;
 use ti_scan::{CountStore, Eroded, Event, LongestPrefix};
-
-// How many patterns a group has: 64 blocks of 64.
-const PER_GROUP: u32 = 4096;
 
 /// The search tree of a training image under a template (Strebelle 2002), as the patterns at the
 /// ends of its branches: they stand in the order of the branches, in blocks and groups of blocks.
@@ -31,14 +29,15 @@ pub struct SearchTree {
 }
 
 impl Model for SearchTree {
-    ghost use Rattle.search_tree.specs.Patterns.{Patterns};
-    ghost use Rattle.search_tree.specs.Store.{IsStore, patterns_in};
+    ghost use Rattle.pattern_store.specs.Store.{stored};
+    ghost use Rattle.search_tree.specs.Groups.{IsTree};
+    ghost use Rattle.search_tree.specs.Tree.{Tree};
 
-    ghost Value = { Patterns };
+    ghost Value = { Tree };
 
-    ghost view = { λ t. record { reach = t.blocks.shown.reach; cats = t.blocks.shown.cats; list = patterns_in t.blocks.shown t.blocks.counts t.groups.count; nodes = t.nodes } };
+    ghost view = { λ t. record { patterns = stored t.blocks.shown t.blocks.counts t.groups.count; nodes = t.nodes } };
 
-    ghost invariant = { λ t. IsStore t.blocks.shown t.blocks.counts t.groups.any t.groups.all t.groups.totals t.groups.count };
+    ghost invariant = { λ t. IsTree t.blocks.shown t.blocks.counts t.groups.any t.groups.all t.groups.totals t.groups.count };
 }
 
 // The tree of all patterns.
@@ -47,8 +46,8 @@ fn whole(eroded: &Eroded<'_>, blocks: Blocks, groups: Groups, ranks: Ranks) -> S
     requires built { IsBuilt eroded.now ranks.places.items groups.count blocks.shown blocks.counts }
     requires room { ranks.classes < groups.count * 4096 }
     requires few { groups.count ≤ 2 ^ 9 }
-    requires sums { (g : ℕ) → g < groups.count → SumsUp blocks.shown blocks.counts groups.any groups.all groups.totals g }
-    ensures stands { StandsFor pattern_counts reach_of result eroded.now }
+    requires sums { AreSummed blocks.shown blocks.counts groups.any groups.all groups.totals groups.count }
+    ensures stands { StandsFor tree_counts tree_reach result eroded.now }
     ensures nodes { result.nodes ≡ all_prefixes eroded.now }
 {
     let _ = eroded.positions();
@@ -62,7 +61,7 @@ fn whole(eroded: &Eroded<'_>, blocks: Blocks, groups: Groups, ranks: Ranks) -> S
 impl SearchTree {
     /// Builds the tree.
     pub fn build(alloc: Global, eroded: &Eroded<'_>) -> Result<SearchTree, NoMemory>
-        ensures stands { IfOk result (λ tree. StandsFor pattern_counts reach_of tree eroded.now) }
+        ensures stands { IfOk result (λ tree. StandsFor tree_counts tree_reach tree eroded.now) }
         ensures nodes { IfOk result (λ tree. tree.nodes ≡ all_prefixes eroded.now) }
     {
         let _ = eroded.positions();
@@ -85,7 +84,7 @@ impl SearchTree {
     /// How many bits say what its patterns show: one for each pattern, position of the template and
     /// category. Nearly all of its memory goes into these. What fills up the last group counts too.
     pub fn bits(&self) -> u64
-        ensures { result ≡ bits_of self.now }
+        ensures { result ≡ tree_bits self.now }
     {
         let shown = &self.blocks.shown;
         let patterns = u64::from(self.groups.count) * u64::from(PER_GROUP);
@@ -94,21 +93,38 @@ impl SearchTree {
 }
 
 impl CountStore for SearchTree {
-    ghost use Rattle.search_tree.specs.Patterns.{pattern_counts, reach_of};
-    ghost use Rattle.search_tree.specs.Falling.{patterns-fall};
+    ghost use Rattle.pattern_store.specs.Falling.{patterns-fall};
+    ghost use Rattle.search_tree.specs.Tree.{tree_counts, tree_reach};
 
-    ghost gives = { λ p event. pattern_counts p event };
+    ghost gives = { λ t event. tree_counts t event };
 
-    ghost reaches = { reach_of };
+    ghost reaches = { tree_reach };
 
-    ghost falls = { λ p event m k le. patterns-fall p event m k le };
+    ghost falls = { λ t event m k le. patterns-fall t.patterns event m k le };
 
     fn counts(&self, event: &Event) -> Counts {
-        counts_of(&self.blocks, &self.groups, event.items())
+        let known = event.items();
+        let blocks = &self.blocks;
+        let groups = &self.groups;
+        let tally = |least: usize| -> [u32; TALLY]
+            requires tree { IsTree blocks.now.shown blocks.now.counts groups.now.any groups.now.all groups.now.totals groups.now.count }
+            requires few { length known.now ≤ 64 }
+            requires least { least ≤ length known.now }
+            ensures { IsTallied blocks.entry.now.shown blocks.entry.now.counts groups.entry.now.count known.entry.now least result }
+        { tally_groups(blocks, groups, known, least) };
+        counts_of(blocks, groups.count, known, tally)
     }
 
     fn longest_prefix(&self, event: &Event, most: u8, min: u32) -> LongestPrefix {
-        let first = &event.items()[..most as usize];
-        longest_of(&self.blocks, &self.groups, first, min)
+        let known = &event.items()[..most as usize];
+        let blocks = &self.blocks;
+        let groups = &self.groups;
+        let tally = |least: usize| -> [u32; TALLY]
+            requires tree { IsTree blocks.now.shown blocks.now.counts groups.now.any groups.now.all groups.now.totals groups.now.count }
+            requires few { length known.now ≤ 64 }
+            requires least { least ≤ length known.now }
+            ensures { IsTallied blocks.entry.now.shown blocks.entry.now.counts groups.entry.now.count known.entry.now least result }
+        { tally_groups(blocks, groups, known, least) };
+        longest_of(blocks, groups.count, known, min, tally)
     }
 }

@@ -1,40 +1,40 @@
-// Search trees that are kept, each with what it was built from, for further levels over the same.
+// Stores that are kept, each with what it was built from, for further levels over the same.
 ghost use Rattle.std.specs.Prelude.{◌≡◌, ◌+◌, ◌≤◌, ◌⊎◌, ◌^◌, [], ◌∷◌, ◌++◌, IfOk, IfSome, IsTrue};
 ghost use Rattle.ti_scan.specs.Event.{StandsFor};
-ghost use Rattle.search_tree.specs.Patterns.{bits_of, pattern_counts, reach_of};
+ghost use Rattle.seq_engine.specs.Store.{built_bits, built_counts, built_reach};
 ghost use Rattle.seq_engine.specs.Kept.{bits_in};
 
+use crate::built::BuiltStore;
 use mp_base::{Grid, NoMemory, Vector};
-use search_tree::SearchTree;
 use std::alloc::Global;
 use std::marker::Model;
 use ti_scan::Eroded;
 
-// How many trees are kept at most: as many as a setup has levels.
-const MOST_TREES: usize = 8;
+// How many stores are kept at most: as many as a setup has levels.
+const MOST_STORES: usize = 8;
 
-// How many bits the patterns of all kept trees have at most: those of 2^28 bytes.
+// How many bits the patterns of all kept stores have at most: those of 2^28 bytes.
 const MOST_BITS: u64 = 1 << 31;
 
-/// A search tree with copies of the image and of the template that it was built from.
+/// A store with copies of the image and of the template that it was built from.
 #[derive(Drop)]
-pub struct KeptTree {
+pub struct KeptStore {
     image: Grid,
     vectors: Vec<Vector>,
     cats: u8,
-    tree: SearchTree,
+    store: BuiltStore,
 }
 
-impl Model for KeptTree {
+impl Model for KeptStore {
     ghost use Rattle.ti_scan.specs.Event.{Source, StandsFor};
-    ghost use Rattle.search_tree.specs.Patterns.{bits_of, pattern_counts, reach_of};
+    ghost use Rattle.seq_engine.specs.Store.{built_bits, built_counts, built_reach};
     ghost use Rattle.seq_engine.specs.Kept.{Kept};
 
     ghost Value = { Kept };
 
-    ghost view = { λ k. record { source = record { image = k.image; template = k.vectors.items; cats = k.cats }; bits = bits_of k.tree } };
+    ghost view = { λ k. record { source = record { image = k.image; template = k.vectors.items; cats = k.cats }; bits = built_bits k.store } };
 
-    ghost invariant = { λ k. StandsFor pattern_counts reach_of k.tree (record { image = k.image; template = k.vectors.items; cats = k.cats }) };
+    ghost invariant = { λ k. StandsFor built_counts built_reach k.store (record { image = k.image; template = k.vectors.items; cats = k.cats }) };
 }
 
 // Whether two images are cell for cell the same, seen by their bytes.
@@ -51,19 +51,19 @@ fn are_same_vectors(vectors: &[Vector], others: &[Vector]) -> bool
     vectors == others
 }
 
-impl KeptTree {
-    /// The tree with copies of what it was built from.
-    pub fn new(alloc: Global, eroded: &Eroded<'_>, tree: SearchTree) -> Result<KeptTree, NoMemory>
-        requires { StandsFor pattern_counts reach_of tree eroded.now }
-        ensures { IfOk result (λ kept. kept ≡ record { source = eroded.now; bits = bits_of tree }) }
+impl KeptStore {
+    /// The store with copies of what it was built from.
+    pub fn new(alloc: Global, eroded: &Eroded<'_>, store: BuiltStore) -> Result<KeptStore, NoMemory>
+        requires { StandsFor built_counts built_reach store eroded.now }
+        ensures { IfOk result (λ kept. kept ≡ record { source = eroded.now; bits = built_bits store }) }
     {
         let image = eroded.image().copy(alloc)?;
         let vectors = eroded.template().vectors().to_vec(alloc)?;
-        Ok(KeptTree {
+        Ok(KeptStore {
             image,
             vectors,
             cats: eroded.cats(),
-            tree,
+            store,
         })
     }
 
@@ -80,89 +80,89 @@ impl KeptTree {
     fn bits(&self) -> u64
         ensures { result ≡ self.now.bits }
     {
-        self.tree.bits()
+        self.store.bits()
     }
 
-    // The tree.
-    fn tree(&self) -> &SearchTree
-        ensures { StandsFor pattern_counts reach_of result.now self.now.source }
+    // The store.
+    fn store(&self) -> &BuiltStore
+        ensures { StandsFor built_counts built_reach result.now self.now.source }
     {
-        &self.tree
+        &self.store
     }
 }
 
-/// The trees that a runner has built and kept. What their patterns show takes at most 2^31 bits.
+/// The stores that a runner has built and kept. What their patterns show takes at most 2^31 bits.
 #[derive(Drop)]
-pub struct KeptTrees {
-    trees: Vec<KeptTree>,
+pub struct KeptStores {
+    stores: Vec<KeptStore>,
     bits: u64,
 }
 
-impl Model for KeptTrees {
+impl Model for KeptStores {
     ghost use Rattle.std.specs.Prelude.{◌≡◌, ◌≤◌, ◌^◌, List};
     ghost use Rattle.seq_engine.specs.Kept.{Kept, bits_in};
 
     ghost Value = { List Kept };
 
-    ghost view = { λ k. k.trees.items };
+    ghost view = { λ k. k.stores.items };
 
-    ghost invariant = { λ k. (k.bits ≡ bits_in k.trees.items) × (k.bits ≤ 2 ^ 31) };
+    ghost invariant = { λ k. (k.bits ≡ bits_in k.stores.items) × (k.bits ≤ 2 ^ 31) };
 }
 
-impl KeptTrees {
-    /// No trees.
-    pub fn new(alloc: Global) -> KeptTrees
+impl KeptStores {
+    /// No stores.
+    pub fn new(alloc: Global) -> KeptStores
         ensures { result ≡ [] }
     {
-        KeptTrees {
-            trees: Vec::new(alloc),
+        KeptStores {
+            stores: Vec::new(alloc),
             bits: 0,
         }
     }
 
-    /// A kept tree of these eroded positions: one that was built from the same image, template and
+    /// A kept store of these eroded positions: one that was built from the same image, template and
     /// number of categories.
-    pub fn find(&self, eroded: &Eroded<'_>) -> Option<&SearchTree>
-        ensures { IfSome result (λ tree. StandsFor pattern_counts reach_of tree.now eroded.now) }
+    pub fn find(&self, eroded: &Eroded<'_>) -> Option<&BuiltStore>
+        ensures { IfSome result (λ store. StandsFor built_counts built_reach store.now eroded.now) }
     {
-        for kept in self.trees.as_slice() {
+        for kept in self.stores.as_slice() {
             if kept.is_of(eroded) {
-                return Some(kept.tree());
+                return Some(kept.store());
             }
         }
         None
     }
 
-    // Whether there is room for another tree of so many bits.
+    // Whether there is room for another store of so many bits.
     fn has_room(&self, bits: u64) -> bool
         ensures room { IsTrue result → bits_in self.now + bits ≤ 2 ^ 31 }
         ensures few { bits_in self.now ≤ 2 ^ 31 }
     {
-        self.trees.len() < MOST_TREES && bits <= MOST_BITS - self.bits
+        self.stores.len() < MOST_STORES && bits <= MOST_BITS - self.bits
     }
 
-    /// Keeps the tree of these eroded positions. It is let go instead where there are enough trees,
+    /// Keeps the store of these eroded positions. It is let go instead where there are enough stores,
     /// where the patterns of all would have too many bits, or where memory for the copies runs out.
-    pub fn keep(&mut self, alloc: Global, eroded: &Eroded<'_>, tree: SearchTree)
-        requires { StandsFor pattern_counts reach_of tree eroded.now }
-        ensures kept { (self.new ≡ self.old) ⊎ (self.new ≡ self.old ++ (record { source = eroded.now; bits = bits_of tree }) ∷ []) }
+    pub fn keep(&mut self, alloc: Global, eroded: &Eroded<'_>, store: BuiltStore)
+        requires { StandsFor built_counts built_reach store eroded.now }
+        ensures kept { (self.new ≡ self.old) ⊎ (self.new ≡ self.old ++ (record { source = eroded.now; bits = built_bits store }) ∷ []) }
         ensures few { bits_in self.new ≤ 2 ^ 31 }
     {
-        if !self.has_room(tree.bits()) {
+        if !self.has_room(store.bits()) {
             return;
         }
-        if let Ok(kept) = KeptTree::new(alloc, eroded, tree) {
+        if let Ok(kept) = KeptStore::new(alloc, eroded, store) {
             self.put(kept);
         }
     }
 
-    /// The same of a tree that has its copies.
-    pub fn put(&mut self, kept: KeptTree)
+    /// The same of a store that has its copies.
+    pub fn put(&mut self, kept: KeptStore)
         ensures kept { (self.new ≡ self.old) ⊎ (self.new ≡ self.old ++ kept ∷ []) }
         ensures few { bits_in self.new ≤ 2 ^ 31 }
     {
         let bits = kept.bits();
-        if self.has_room(bits) && self.trees.push(kept).is_ok() {
+        if self.has_room(bits) && self.stores.push(kept).is_ok() {
             self.bits += bits;
         }
     }

@@ -3,6 +3,7 @@
 #![tactic(auto)]
 
 mod building;
+mod built;
 mod kept;
 mod level;
 mod plan;

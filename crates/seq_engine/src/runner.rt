@@ -32,12 +32,12 @@ pub trait LevelRunner {
 
 /// Simulates levels on one thread. To a caller it is the way in which it counts.
 #[derive(Drop)]
-pub struct OneThread<'a, R: Threads> {
+pub struct OneThread<'a, R: Threads + Sync> {
     rt: &'a R,
     stores: Stores,
 }
 
-impl<'a, R: Threads> Model for OneThread<'a, R> {
+impl<'a, R: Threads + Sync> Model for OneThread<'a, R> {
     ghost use Rattle.seq_engine.specs.declared.stores.StoreKind.{StoreKind};
 
     ghost Value = { StoreKind };
@@ -45,7 +45,7 @@ impl<'a, R: Threads> Model for OneThread<'a, R> {
     ghost view = { λ runner. runner.stores };
 }
 
-impl<'a, R: Threads> OneThread<'a, R> {
+impl<'a, R: Threads + Sync> OneThread<'a, R> {
     /// A runner that counts so. Building a store may use the runtime's threads.
     pub fn new(rt: &'a R, kind: StoreKind) -> OneThread<'a, R>
         ensures { result ≡ kind }
@@ -57,10 +57,12 @@ impl<'a, R: Threads> OneThread<'a, R> {
     }
 }
 
-impl<'a, R: Threads> LevelRunner for OneThread<'a, R> {
-    ghost use Rattle.std.specs.Prelude.{⊤, ◌≡◌};
+impl<'a, R: Threads + Sync> LevelRunner for OneThread<'a, R> {
+    ghost use Rattle.std.specs.Prelude.{◌≡◌};
+    ghost use denote.Param.Send.{IsSync};
 
-    ghost ready = { λ _. ⊤ };
+    // Threads can share the runtime, which those that build a store do.
+    ghost ready = { λ _. IsSync R.row };
 
     // A level leaves nothing behind.
     ghost ran = { λ before _ now. now ≡ before };
@@ -71,6 +73,6 @@ impl<'a, R: Threads> LevelRunner for OneThread<'a, R> {
             ensures log { IfOk result (λ log. log.items ≡ sequential plan.now) }
             ensures cats { IfOk result (λ log. All (λ e. e.cat < plan.now.source.cats) log.items) }
         { run_level(alloc, plan, &store) };
-        self.stores.run(alloc, plan, &simulate)
+        self.stores.run(self.rt, alloc, plan, &simulate)
     }
 }

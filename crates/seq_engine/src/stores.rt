@@ -6,9 +6,11 @@ ghost use Rattle.seq_engine.specs.Setup.{IsSetup};
 ghost use Rattle.seq_engine.specs.Store.{store_counts, store_reach};
 
 use crate::building::keep_levels;
-use crate::kept::KeptTrees;
+use crate::built::{BuiltKind, BuiltStore};
+use crate::kept::KeptStores;
 use crate::setup::Setup;
 use event_retrieve::LevelPlan;
+use impala_list::EventList;
 use mp_base::{Counts, Entry, NoMemory};
 use search_tree::SearchTree;
 use std::alloc::Global;
@@ -23,15 +25,19 @@ pub enum StoreKind {
     Scan,
     /// By a search tree for each level. Levels over the same image and template share theirs.
     Tree,
+    /// By a list of patterns for each level, shared likewise.
+    List,
 }
 
-/// A store of either kind.
+/// A store of any kind.
 #[derive(Clone, Copy)]
 pub enum Store<'a> {
     /// The eroded positions of a level.
     Scan(&'a Eroded<'a>),
     /// Their search tree.
     Tree(&'a SearchTree),
+    /// The list of their patterns.
+    List(&'a EventList),
 }
 
 impl<'a> CountStore for Store<'a> {
@@ -47,6 +53,7 @@ impl<'a> CountStore for Store<'a> {
         match self {
             Store::Scan(eroded) => eroded.counts(event),
             Store::Tree(tree) => tree.counts(event),
+            Store::List(list) => list.counts(event),
         }
     }
 
@@ -54,6 +61,7 @@ impl<'a> CountStore for Store<'a> {
         match self {
             Store::Scan(eroded) => eroded.longest_prefix(event, most, min),
             Store::Tree(tree) => tree.longest_prefix(event, most, min),
+            Store::List(list) => list.longest_prefix(event, most, min),
         }
     }
 }
@@ -63,8 +71,8 @@ impl<'a> CountStore for Store<'a> {
 #[derive(Drop)]
 pub struct Stores {
     kind: StoreKind,
-    // The trees that were built, for further realisations: there are none before the first.
-    kept: Option<KeptTrees>,
+    // The stores that were built, for further realisations: there are none before the first.
+    kept: Option<KeptStores>,
 }
 
 impl Model for Stores {
@@ -83,36 +91,40 @@ impl Stores {
         Stores { kind, kept: None }
     }
 
-    /// Builds the trees of all levels of a setup side by side, at most so many at once, for the levels
-    /// to come. It changes no answer: the run of a level builds the tree that it doesn't find, so where
-    /// memory runs out here, or where the trees would take too much, fewer are kept. Stores that scan
+    /// Builds the stores of all levels of a setup side by side, at most so many at once, for the levels
+    /// to come. It changes no answer: the run of a level builds the store that it doesn't find, so where
+    /// memory runs out here, or where the stores would take too much, fewer are kept. Stores that scan
     /// build nothing.
     pub fn prepare<R: Threads + Sync>(&mut self, rt: &R, alloc: Global, setup: &Setup, threads: u8)
         requires setup { IsSetup setup.now }
         requires threads { 1 ≤ threads }
         ensures { self.new ≡ self.old }
     {
-        if self.kind == StoreKind::Tree {
-            let mut kept = self.take_trees(alloc);
-            keep_levels(rt, alloc, setup, threads, &mut kept);
+        if let Some(kind) = built_kind(self.kind) {
+            let mut kept = self.take_kept(alloc);
+            keep_levels(rt, alloc, setup, threads, kind, &mut kept);
             self.kept = Some(kept);
         }
     }
 
-    // Takes the trees out.
-    fn take_trees(&mut self, alloc: Global) -> KeptTrees
+    // Takes the kept stores out.
+    fn take_kept(&mut self, alloc: Global) -> KeptStores
         ensures { self.new ≡ self.old }
     {
         match self.kept.take() {
             Some(kept) => kept,
-            None => KeptTrees::new(alloc),
+            None => KeptStores::new(alloc),
         }
     }
 
     /// What `simulate` makes of a level over its store: one that was kept, or else a new one. It has
     /// to give what the sequential simulation of the level defines, over any store that counts right.
-    pub fn run<F: Fn(Global, &LevelPlan<'_>, Store<'_>) -> Result<Vec<Entry>, NoMemory>>(
+    pub fn run<
+        R: Threads + Sync,
+        F: Fn(Global, &LevelPlan<'_>, Store<'_>) -> Result<Vec<Entry>, NoMemory>,
+    >(
         &mut self,
+        rt: &R,
         alloc: Global,
         plan: &LevelPlan<'_>,
         simulate: &F,
@@ -127,11 +139,11 @@ impl Stores {
         ensures cats { IfOk result (λ log. All (λ e. e.cat < plan.now.source.cats) log.items) }
         ensures same { self.new ≡ self.old }
     {
-        match self.kind {
-            StoreKind::Scan => simulate(alloc, plan, Store::Scan(plan.eroded())),
-            StoreKind::Tree => {
-                let mut kept = self.take_trees(alloc);
-                let log = run_by_tree(alloc, plan, &mut kept, simulate);
+        match built_kind(self.kind) {
+            None => simulate(alloc, plan, Store::Scan(plan.eroded())),
+            Some(kind) => {
+                let mut kept = self.take_kept(alloc);
+                let log = run_built(rt, alloc, plan, kind, &mut kept, simulate);
                 self.kept = Some(kept);
                 log
             }
@@ -139,11 +151,25 @@ impl Stores {
     }
 }
 
-// The same by the tree of a level: a kept one, or else a new one.
-fn run_by_tree<F: Fn(Global, &LevelPlan<'_>, Store<'_>) -> Result<Vec<Entry>, NoMemory>>(
+// The kind of the stores that are built, if any are.
+fn built_kind(kind: StoreKind) -> Option<BuiltKind> {
+    match kind {
+        StoreKind::Scan => None,
+        StoreKind::Tree => Some(BuiltKind::Tree),
+        StoreKind::List => Some(BuiltKind::List),
+    }
+}
+
+// The same by a store that is built: a kept one, or else a new one.
+fn run_built<
+    R: Threads + Sync,
+    F: Fn(Global, &LevelPlan<'_>, Store<'_>) -> Result<Vec<Entry>, NoMemory>,
+>(
+    rt: &R,
     alloc: Global,
     plan: &LevelPlan<'_>,
-    kept: &mut KeptTrees,
+    kind: BuiltKind,
+    kept: &mut KeptStores,
     simulate: &F,
 ) -> Result<Vec<Entry>, NoMemory>
     requires may { (alloc : _) (plan : _) (store : _) → StandsFor store_counts store_reach store plan.now.source
@@ -156,11 +182,11 @@ fn run_by_tree<F: Fn(Global, &LevelPlan<'_>, Store<'_>) -> Result<Vec<Entry>, No
     ensures cats { IfOk result (λ log. All (λ e. e.cat < plan.now.source.cats) log.items) }
 {
     let eroded = plan.eroded();
-    if let Some(tree) = kept.find(eroded) {
-        return simulate(alloc, plan, Store::Tree(tree));
+    if let Some(store) = kept.find(eroded) {
+        return simulate(alloc, plan, store.as_store());
     }
-    let tree = SearchTree::build(alloc, eroded)?;
-    let log = simulate(alloc, plan, Store::Tree(&tree))?;
-    kept.keep(alloc, eroded, tree);
+    let store = BuiltStore::build(rt, alloc, eroded, kind)?;
+    let log = simulate(alloc, plan, store.as_store())?;
+    kept.keep(alloc, eroded, store);
     Ok(log)
 }

@@ -104,7 +104,7 @@ fn setup_of(
 
 /// A realisation by a runner of its own.
 pub fn realised_by(
-    rt: &impl Threads,
+    rt: &(impl Threads + Sync),
     alloc: Global,
     setup: &Setup,
     realisation: u32,
@@ -181,7 +181,11 @@ const WORKED: [Worked; 6] = [
 ];
 
 // A realisation is as it was worked out, over scans and over trees.
-fn is_realised<R: Abort + Threads>(rt: &R, alloc: Global, worked: &Worked) -> Result<(), RunError> {
+fn is_realised<R: Abort + Threads + Sync>(
+    rt: &R,
+    alloc: Global,
+    worked: &Worked,
+) -> Result<(), RunError> {
     let levels = u8::try_from(worked.positions.len()).unwrap_or(8);
     let setup = setup_of(
         alloc,
@@ -195,7 +199,7 @@ fn is_realised<R: Abort + Threads>(rt: &R, alloc: Global, worked: &Worked) -> Re
         check_positions(alloc, &setup)?.as_slice(),
         worked.positions
     );
-    for kind in [StoreKind::Scan, StoreKind::Tree] {
+    for kind in [StoreKind::Scan, StoreKind::Tree, StoreKind::List] {
         let realised = realised_by(rt, alloc, &setup, 0, kind)?;
         assert_eq!(rt; realised.as_bytes(), worked.expected);
     }
@@ -224,7 +228,7 @@ fn the_coarsest_level_with_too_few_positions_is_named(rt: HostRuntime) -> Result
 }
 
 // The next two realisations of a runner are those of new scans. The first of four cells is known.
-fn serves<R: Abort + Threads>(
+fn serves<R: Abort + Threads + Sync>(
     rt: &R,
     alloc: Global,
     runner: &mut OneThread<'_, R>,
@@ -244,7 +248,7 @@ fn serves<R: Abort + Threads>(
 }
 
 #[test]
-fn a_runner_serves_each_setup_by_its_own_trees(rt: HostRuntime) -> Result<(), Fail> {
+fn a_runner_serves_each_setup_by_its_own_stores(rt: HostRuntime) -> Result<(), Fail> {
     let six = [0, 1, 1, 0, 1, 1].as_slice();
     let waves = WAVES.as_slice();
     let bands = BANDS.as_slice();
@@ -268,14 +272,16 @@ fn a_runner_serves_each_setup_by_its_own_trees(rt: HostRuntime) -> Result<(), Fa
 
 // Simulates each level over stores that were prepared before the first.
 #[derive(Drop)]
-struct Prepared {
+struct Prepared<'a, R: Threads + Sync> {
+    rt: &'a R,
     stores: Stores,
 }
 
-impl LevelRunner for Prepared {
+impl<'a, R: Threads + Sync> LevelRunner for Prepared<'a, R> {
     ghost use Rattle.std.specs.Prelude.{⊤};
+    ghost use denote.Param.Send.{IsSync};
 
-    ghost ready = { λ _. ⊤ };
+    ghost ready = { λ _. IsSync R.row };
 
     ghost ran = { λ _ _ _. ⊤ };
 
@@ -285,22 +291,23 @@ impl LevelRunner for Prepared {
             ensures log { IfOk result (λ log. log.items ≡ sequential plan.now) }
             ensures cats { IfOk result (λ log. All (λ e. e.cat < plan.now.source.cats) log.items) }
         { run_level(alloc, plan, &store) };
-        self.stores.run(alloc, plan, &simulate)
+        self.stores.run(self.rt, alloc, plan, &simulate)
     }
 }
 
 #[test]
-fn trees_that_were_built_side_by_side_change_no_answer(rt: HostRuntime) -> Result<(), Fail> {
+fn stores_that_were_built_side_by_side_change_no_answer(rt: HostRuntime) -> Result<(), Fail> {
     for (kind, threads) in [
         (StoreKind::Scan, 2),
         (StoreKind::Tree, 1),
         (StoreKind::Tree, 2),
         (StoreKind::Tree, 4),
+        (StoreKind::List, 2),
     ] {
         let setup = setup_of(rt.alloc(), WAVES.as_slice(), (2, 4), &[NONE; 20], 3, 1)?;
         let mut stores = Stores::new(kind);
         stores.prepare(&rt, rt.alloc(), &setup, threads);
-        let mut runner = Prepared { stores };
+        let mut runner = Prepared { rt: &rt, stores };
         let realisation = run_realisation(rt.alloc(), &setup, 0, &mut runner)?;
         let anew = realised_by(&rt, rt.alloc(), &setup, 0, StoreKind::Scan)?;
         assert_eq!(rt; realisation.as_bytes(), anew.as_bytes());

@@ -95,7 +95,7 @@ fn run_by_runner<R: Threads + Wait + Sync>(
         ensures log { IfOk result (λ log. log.items ≡ sequential plan.now) }
         ensures cats { IfOk result (λ log. All (λ (e : EntryOf). e.cat < plan.now.source.cats) log.items) }
     { run_level_by(rt, alloc, plan, &store, &OpenGate, 4, 16) };
-    let mut runner = Workers::new(Stores::new(kind), simulate);
+    let mut runner = Workers::new(rt, Stores::new(kind), simulate);
     runner.run(alloc, plan)
 }
 
@@ -113,7 +113,7 @@ fn workers_give_the_sequential_log(rt: HostRuntime) -> Result<(), Fail> {
         let by = run_gated(&rt, rt.alloc(), &plan, &OpenGate, workers, window)?;
         assert_eq!(rt; by.as_slice(), log);
     }
-    for kind in [StoreKind::Scan, StoreKind::Tree] {
+    for kind in [StoreKind::Scan, StoreKind::Tree, StoreKind::List] {
         let by = run_by_runner(&rt, rt.alloc(), &plan, kind)?;
         assert_eq!(rt; by.as_slice(), log);
     }

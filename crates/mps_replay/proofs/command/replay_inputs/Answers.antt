@@ -11,8 +11,8 @@ use Rattle.mps_inputs.proofs.Stages.{levels_same, refused_next}
 use Rattle.mps_replay.specs.Outcome.{replay_of, replay_steps}
 use Rattle.mps_replay.proofs.command.replay_inputs.Goals as goal
 
-pub replay_judged-requires : goal.replay_judged-requires
-replay_judged-requires g c =
+pub replay_judged-requires-after_bounds : goal.replay_judged-requires-after_bounds
+replay_judged-requires-after_bounds g c = λ _ _.
     let judged = c.in_ok-judged.judged in
     let is = c.in_ok-judged.ensures.judged in
     record {

@@ -18,7 +18,7 @@ returns g c =
     let p = c.in_ok-parameters.parameters in
     let only = c.in_ok-parameters.ensures.only in
     served_after (read_as parameters_in name) (scan_under words) before mid now out told p c.in_ok-parameters.ensures.read only.tells_same only.held_same only.reads_later only.writes_same (one_file parameters_in name)
-    (refused_somewhere name words p mid c.scan_under.ensures.params c.in_ok-parameters.ensures.built) c.scan_under.result c.scan_under.ensures.serves
+    (refused_somewhere name words p mid c.scan_under.ensures.params) c.scan_under.result c.scan_under.ensures.serves
 
 pub returns-in_err-parameters : goal.returns-in_err-parameters
 returns-in_err-parameters g c =

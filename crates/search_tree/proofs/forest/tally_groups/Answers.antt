@@ -1,6 +1,7 @@
 use Rattle.std.proofs.Common.{◌≡◌, ℕ, ◌+◌, ◌*◌, replicate, ap, arith}
-use Rattle.search_tree.specs.Forest.{forest_gain}
-use Rattle.search_tree.proofs.ForestSums.{group_added, group_room, none_tallied, zero_tally}
+use Rattle.pattern_store.specs.Gains.{store_gain}
+use Rattle.pattern_store.proofs.Stored.{gain_room}
+use Rattle.pattern_store.proofs.StoreSums.{group_added, group_room, none_tallied, zero_tally}
 use Rattle.search_tree.proofs.forest.tally_groups.Goals as goal
 
 pub loop-group-init : goal.loop-group-init
@@ -9,7 +10,7 @@ loop-group-init c = none_tallied c.args.blocks.now.shown c.args.blocks.now.count
 pub tally_group-requires-clause-room : goal.tally_group-requires-clause-room
 tally_group-requires-clause-room c =
     group_room c.args.blocks.now.shown c.args.blocks.now.counts c.args.event.now c.args.groups.now.count c.loop-group.group c.args.least c.loop-group-test.true (replicate 520 0) c.loop-group.tally c.loop-group.invariant
-    (λ row k below from. zero_tally (row * 8 + k)) c.requires.room
+    (λ row k below from. zero_tally (row * 8 + k)) (gain_room c.args.blocks.now.shown c.args.blocks.now.counts c.args.groups.now.count c.requires.tree.store c.args.event.now)
 
 pub loop-group-preserved : goal.loop-group-preserved
 loop-group-preserved c =
@@ -24,6 +25,6 @@ returns c =
         arith,
         c.loop-group.invariant.each row k below from,
         zero_tally (row * 8 + k),
-        ap (λ (n : ℕ). forest_gain c.args.blocks.now.shown c.args.blocks.now.counts n c.args.event.now row k) end,
+        ap (λ (n : ℕ). store_gain c.args.blocks.now.shown c.args.blocks.now.counts n c.args.event.now row k) end,
       );
     }

@@ -1,5 +1,5 @@
 use Rattle.pattern_blocks.specs.Tally.{Adds}
-use Rattle.search_tree.proofs.ForestSums.{gain}
+use Rattle.pattern_store.proofs.StoreSums.{gain}
 use Rattle.search_tree.proofs.forest.tally_groups.Given as goal
 
 abbrev pub invariant-loop-group : goal.invariant-loop-group

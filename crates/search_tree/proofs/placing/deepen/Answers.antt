@@ -1,8 +1,9 @@
 use Rattle.std.proofs.Common.{◌+◌, ◌≤◌, ◌^◌, ℕ, List, length, ap, sym, subst, ◌∙◌, arith}
-use Rattle.search_tree.specs.Levels.{IsRanked, many}
-use Rattle.search_tree.specs.Ranks.{IsRefined}
+use Rattle.pattern_store.specs.Levels.{many}
+use Rattle.search_tree.specs.Ranks.{IsRanked, IsRefined}
 use Rattle.std.proofs.Math.Nat.{mul-le-mul_right}
-use Rattle.search_tree.proofs.Depths.{deeper, next-le, written_over}
+use Rattle.pattern_store.proofs.Lists.{written_over}
+use Rattle.search_tree.proofs.Depths.{deeper, next-le}
 use Rattle.search_tree.proofs.placing.deepen.Goals as goal
 
 pub overflow_add-ranks : goal.overflow_add-ranks

@@ -1,5 +1,5 @@
 use Rattle.std.proofs.Common.{◌≡◌, length}
-use Rattle.search_tree.specs.Levels.{IsRanked}
+use Rattle.search_tree.specs.Ranks.{IsRanked}
 use Rattle.search_tree.proofs.placing.ranks_of.Given as goal
 
 abbrev pub invariant-loop-depth : goal.invariant-loop-depth

@@ -1,5 +1,5 @@
 use Rattle.std.proofs.Common.{◌≡◌, ℕ, ◌<◌, ◌≤◌, length, slice_index}
-use Rattle.search_tree.specs.Ranks.{place_slot}
+use Rattle.pattern_store.specs.Slots.{place_slot}
 use Rattle.search_tree.proofs.ranks.rank_places.Given as goal
 
 abbrev pub invariant-loop-i : goal.invariant-loop-i

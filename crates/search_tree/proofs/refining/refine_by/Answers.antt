@@ -1,5 +1,5 @@
 use Rattle.std.proofs.Common.{ℕ, List, get_or, length, ap, refl, ◌∙◌, arith}
-use Rattle.search_tree.proofs.ForestSums.{zeros}
+use Rattle.pattern_store.proofs.StoreSums.{zeros}
 use Rattle.search_tree.proofs.Places.{refined}
 use Rattle.search_tree.proofs.refining.refine_by.Goals as goal
 

@@ -1,7 +1,7 @@
 use Rattle.std.proofs.Common.{ℕ, ◌+◌, ◌/◌, ◌≤◌, ◌^◌, List, ap, length, subst, arith}
-use Rattle.search_tree.specs.Building.{IsBuilt}
-use Rattle.search_tree.specs.Levels.{many}
-use Rattle.search_tree.proofs.Standing.{block_sums}
+use Rattle.pattern_store.specs.Building.{IsBuilt}
+use Rattle.pattern_store.specs.Levels.{many}
+use Rattle.search_tree.proofs.BlockSums.{block_sums}
 use Rattle.search_tree.proofs.tree.SearchTree.build.Goals as goal
 
 pub groups_of-requires-clause-sums : goal.groups_of-requires-clause-sums
@@ -12,4 +12,4 @@ groups_of-requires-clause-sums c =
     let count = ranks.classes / 4096 + 1 in
     let few : many s ≤ 2 ^ 20 = omega (arith, ap length c.positions.ensures.positions, c.positions.ensures.few) in
     let built = subst (λ (p : List ℕ). IsBuilt s p count blocks.shown blocks.counts) c.deref.ensures.value c.in_ok-blocks.ensures in
-    block_sums s c.positions.ensures.source few ranks.places.items ranks.classes ranks.nodes count c.in_ok-ranks.ensures blocks.shown blocks.counts built (omega arith) (omega (arith, few, c.in_ok-ranks.ensures.few))
+    block_sums s c.positions.ensures.source few ranks.places.items count blocks.shown blocks.counts built

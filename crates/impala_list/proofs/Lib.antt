@@ -1,0 +1,5 @@
+mod Ranks
+mod Deepening
+mod BlockSums
+mod GroupParts
+mod PartSums

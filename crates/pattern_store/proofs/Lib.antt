@@ -1,0 +1,17 @@
+pub mod Lists
+pub mod Sums
+pub mod StoreSums
+pub mod Counted
+pub mod RowSums
+pub mod Holders
+pub mod Eroding
+pub mod Reading
+pub mod Source
+pub mod Stored
+pub mod Bitwise
+pub mod Flat
+pub mod Whole
+pub mod Picks
+pub mod Standing
+pub mod Numbers
+pub mod Longer

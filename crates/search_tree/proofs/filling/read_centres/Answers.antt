@@ -1,6 +1,0 @@
-use Rattle.search_tree.proofs.Eroding.{eroded_at}
-use Rattle.search_tree.proofs.filling.read_centres.Goals as goal
-
-pub category_at-requires-clause-eroded : goal.category_at-requires-clause-eroded
-category_at-requires-clause-eroded c =
-    eroded_at c.args.eroded.now.image c.args.eroded.now.template c.positions-cells.result.now c.loop-i.i c.index-cells-i.result c.positions-cells.ensures.positions c.loop-i-test.true c.index-cells-i.is
