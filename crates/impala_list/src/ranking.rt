@@ -1,5 +1,5 @@
 // The places of keys among the distinct ones.
-ghost use Rattle.std.specs.Prelude.{◌≡◌, ◌<◌, ◌^◌, IfOk, length};
+ghost use Rattle.std.specs.Prelude.{◌<◌, ◌^◌, IfOk, length};
 ghost use Rattle.std.specs.List.{AllZip};
 ghost use Rattle.impala_list.specs.Ranking.{AreDistinct, AreRanked, IsAmong, IsPlace};
 

@@ -1,5 +1,5 @@
 // The tally of all entries.
-ghost use Rattle.std.specs.Prelude.{◌≡◌, ℕ, ◌≤◌, ◌<◌, ◌^◌, length};
+ghost use Rattle.std.specs.Prelude.{◌≡◌, ◌≤◌, ◌<◌, ◌^◌, length};
 ghost use Rattle.pattern_blocks.specs.Tally.{Adds, HasRoom};
 ghost use Rattle.pattern_store.specs.Gains.{IsTallied, group_gain};
 ghost use Rattle.pattern_store.specs.Store.{IsStore};

@@ -1,6 +1,5 @@
 // The text of `scan`.
-ghost use Rattle.std.specs.Prelude.{◌≡◌, ◌++◌, ◌≤◌, OnErr, OnOk, length, map};
-ghost use Rattle.std.specs.Fmt.{decimal};
+ghost use Rattle.std.specs.Prelude.{◌≡◌, ◌++◌, OnErr, OnOk, length, map};
 ghost use Rattle.ti_scan.specs.Event.{IsEvent, StandsFor, counts_of};
 ghost use Rattle.mps_scan.specs.Text.{counts_line, counts_text, kept_line, prefix_lines, prefixes_of, retained_line, scan_text, store_line};
 

@@ -1,5 +1,5 @@
 // The words of a command: which words are one, and which one.
-ghost use Rattle.std.specs.Prelude.{◌≡◌, ◌≤◌, ◌++◌, [], IfErr, IfOk, IfSome, length, option_and_then, option_map, true};
+ghost use Rattle.std.specs.Prelude.{◌≡◌, ◌≤◌, ◌++◌, [], IfErr, IfOk, IfSome, true};
 ghost use Rattle.mps_words.specs.Forms.{flagged, listed, numbered};
 ghost use Rattle.mps_words.specs.Words.{IsInRange, check_of as check_of_parts, command_by, command_named as command_named_words, command_of as command_of_words, demo_of as demo_of_parts, is_command_name, is_name as is_name_text, name_of as name_of_word, names_a_command, replay_of as replay_of_parts, run_of as run_of_parts, scan_of as scan_of_parts, seed_of as seed_of_word, texts, workers_of as workers_of_word};
 

@@ -1,5 +1,5 @@
 // Numbers of 64 items, as planes of bits.
-ghost use Rattle.std.specs.Prelude.{◌≡◌, ℕ, ◌+◌, ◌-◌, ◌*◌, ◌/◌, ◌%◌, ◌<◌, ◌≤◌, ◌^◌, IfOk, OnOk, length, slice_index};
+ghost use Rattle.std.specs.Prelude.{◌≡◌, ℕ, ◌+◌, ◌-◌, ◌*◌, ◌<◌, ◌≤◌, ◌^◌, IfOk, OnOk, length, slice_index};
 ghost use Rattle.pattern_blocks.specs.Making.{AddsPlanes, AreRows, number_at, row_number};
 ghost use Rattle.pattern_blocks.specs.Planes.{marked_sum, planes_of};
 

@@ -1,5 +1,5 @@
 // How many positions have a slot.
-ghost use Rattle.std.specs.Prelude.{◌≡◌, ℕ, ◌+◌, ◌*◌, ◌<◌, ◌^◌, IfOk, length, replicate, slice_index};
+ghost use Rattle.std.specs.Prelude.{◌≡◌, ℕ, ◌+◌, ◌<◌, ◌^◌, IfOk, length, replicate, slice_index};
 ghost use Rattle.pattern_store.specs.Building.{in_slot};
 ghost use Rattle.pattern_store.specs.Slots.{HaveSlots};
 

@@ -1,5 +1,5 @@
 // From a tally to the counts of prefixes.
-ghost use Rattle.std.specs.Prelude.{◌≡◌, ℕ, ◌*◌, ◌+◌, ◌<◌, ◌≤◌, ◌^◌, IfNone, IfSome, length, slice_index};
+ghost use Rattle.std.specs.Prelude.{ℕ, ◌*◌, ◌+◌, ◌<◌, ◌≤◌, ◌^◌, IfNone, IfSome, length, slice_index};
 ghost use Rattle.pattern_store.specs.Gains.{IsTallied};
 ghost use Rattle.pattern_store.specs.Longest.{AddsRow, IsLongest, rows_from};
 

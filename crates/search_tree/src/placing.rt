@@ -1,5 +1,5 @@
 // The ranks of positions among the distinct patterns.
-ghost use Rattle.std.specs.Prelude.{◌≡◌, ◌+◌, ◌<◌, IfOk, OnOk, length};
+ghost use Rattle.std.specs.Prelude.{◌+◌, ◌<◌, IfOk, OnOk, length};
 ghost use Rattle.ti_scan.specs.Eroded.{positions_of};
 ghost use Rattle.pattern_store.specs.Levels.{AreShown};
 ghost use Rattle.search_tree.specs.Ranks.{IsRanked};

@@ -1,5 +1,5 @@
 // Ranks: numbers for the slots that have a position, in the order of the slots.
-ghost use Rattle.std.specs.Prelude.{◌≡◌, ℕ, ◌+◌, ◌*◌, ◌<◌, ◌^◌, cond, length, slice_index};
+ghost use Rattle.std.specs.Prelude.{◌≡◌, ℕ, ◌+◌, ◌<◌, ◌^◌, cond, length, slice_index};
 ghost use Rattle.pattern_store.specs.Slots.{HaveSlots, place_slot};
 ghost use Rattle.search_tree.specs.Ranks.{AreMarked, AreRanks, used_before};
 

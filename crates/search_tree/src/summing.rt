@@ -1,5 +1,5 @@
 // Groups of blocks, from the blocks.
-ghost use Rattle.std.specs.Prelude.{◌≡◌, ℕ, ◌+◌, ◌-◌, ◌*◌, ◌^◌, ◌<◌, ◌≤◌, IfOk};
+ghost use Rattle.std.specs.Prelude.{◌≡◌, ℕ, ◌-◌, ◌*◌, ◌^◌, ◌<◌, ◌≤◌, IfOk};
 ghost use Rattle.pattern_blocks.specs.Planes.{marked_sum, planes_of};
 ghost use Rattle.search_tree.specs.Groups.{SumsUp};
 

@@ -1,5 +1,5 @@
 // The search tree.
-ghost use Rattle.std.specs.Prelude.{◌≡◌, ℕ, ◌*◌, ◌<◌, ◌≤◌, ◌^◌, IfOk, length};
+ghost use Rattle.std.specs.Prelude.{◌≡◌, ◌*◌, ◌<◌, ◌≤◌, ◌^◌, IfOk, length};
 ghost use Rattle.ti_scan.specs.Event.{StandsFor};
 ghost use Rattle.pattern_store.specs.Building.{IsBuilt};
 ghost use Rattle.pattern_store.specs.Gains.{IsTallied};

@@ -26,7 +26,7 @@ pub struct KeptStore {
 }
 
 impl Model for KeptStore {
-    ghost use Rattle.ti_scan.specs.Event.{Source, StandsFor};
+    ghost use Rattle.ti_scan.specs.Event.{StandsFor};
     ghost use Rattle.seq_engine.specs.Store.{built_bits, built_counts, built_reach};
     ghost use Rattle.seq_engine.specs.Kept.{Kept};
 

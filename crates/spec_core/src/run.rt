@@ -2,7 +2,6 @@
 ghost use Rattle.std.specs.Prelude.{◌≡◌, ◌≤◌, IfOk, OnOk, length};
 ghost use Rattle.ti_scan.specs.Event.{StandsFor};
 ghost use Rattle.event_retrieve.specs.Sequential.{log_of};
-ghost use Rattle.commit_board.specs.Board.{IsBoard};
 ghost use Rattle.spec_steps.specs.Answers.{NamesCategories};
 ghost use Rattle.spec_core.specs.Run.{after_all, answers_of};
 ghost use Rattle.spec_core.specs.World.{FitsPlan, first_machine};

@@ -1,5 +1,5 @@
 // Schedules read from a file.
-ghost use Rattle.std.specs.Prelude.{◌≡◌, All, IfOk};
+ghost use Rattle.std.specs.Prelude.{All, IfOk};
 ghost use Rattle.spec_steps.specs.Lines.{end_of, kept_in};
 ghost use Rattle.spec_steps.specs.Schedule.{Gives, IsSchedule, schedule_in, schedule_of, steps_in};
 ghost use Rattle.spec_steps.specs.Steps.{IsStepOf};

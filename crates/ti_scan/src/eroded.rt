@@ -1,5 +1,5 @@
 // The eroded positions of an image, and counting the replicates of an event among them.
-ghost use Rattle.std.specs.Prelude.{◌≡◌, ◌≤◌, ◌<◌, ◌^◌, All, IfOk, IfSome, length};
+ghost use Rattle.std.specs.Prelude.{◌≡◌, ◌≤◌, ◌<◌, ◌^◌, All, IfOk, length};
 ghost use Rattle.mp_base.specs.Grid.{cells_of, cat_at, IsBelow};
 ghost use Rattle.ti_scan.specs.Eroded.{positions_of};
 ghost use Rattle.ti_scan.specs.Event.{counts_of, IsEvent, IsSource};

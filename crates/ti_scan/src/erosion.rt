@@ -1,7 +1,7 @@
 // Erosion, a block of cells at a time.
-ghost use Rattle.std.specs.Prelude.{◌≡◌, ◌+◌, ◌<◌, ◌≤◌, ◌^◌, ◌&&◌, ◌++◌, OnOk, length, map, count_by};
+ghost use Rattle.std.specs.Prelude.{◌≡◌, ◌+◌, ◌<◌, ◌≤◌, ◌&&◌, OnOk, length, count_by};
 ghost use Rattle.std.specs.List.{range_with_len};
-ghost use Rattle.mp_base.specs.Grid.{IsShape, category_of, cells_of};
+ghost use Rattle.mp_base.specs.Grid.{IsShape, cells_of};
 ghost use Rattle.ti_scan.specs.Eroded.{is_eroded};
 ghost use Rattle.ti_scan.specs.Marks.{Keeps};
 ghost use Rattle.ti_scan.specs.Window.{AddsCentres, AddsEroded, KeepsEroded, eroded_from, inside_from, is_inside};

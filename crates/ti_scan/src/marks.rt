@@ -3,7 +3,6 @@
 ghost use Rattle.std.specs.Prelude.{◌≡◌, ◌≤◌, ◌<◌, ◌^◌, ◌+◌, ◌++◌, None, OnOk, cond, if◌then◌else◌, length, map, ℕ, slice_index};
 ghost use Rattle.ti_scan.specs.Marks.{Keeps, has_byte, has_category, categories_marked, cells_marked, marked, marks_in};
 ghost use Rattle.ti_scan.specs.Window.{AddsMarked};
-ghost use Rattle.std.specs.List.{range_with_len};
 ghost use Rattle.mp_base.specs.Grid.{category_of};
 
 use mp_base::{CellId, NoMemory};

@@ -1,5 +1,5 @@
 ghost use Rattle.std.specs.Prelude.{◌≡◌, ◌<◌, ◌≤◌, ◌∷◌, [], All, IfOk, length};
-ghost use Rattle.mp_base.specs.Grid.{IsBelow, cells_of};
+ghost use Rattle.mp_base.specs.Grid.{IsBelow};
 
 use crate::{CountStore, Datum, Eroded, Event, cat_from, count_positions};
 use mp_base::{Cat, CellId, Grid, NoMemory, Shape, Vector};
