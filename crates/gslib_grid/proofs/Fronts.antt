@@ -208,14 +208,14 @@ unfolding rows_in
 nothing_read wanted codes bytes = record { before = []; together = refl; faults = refl; lines = refl }
 
 -- a line's fault, where there is one
-fault_of : (wanted : Wanted) (codes : Codes) (front : Front) (line : List ℕ) (fault : TableFault) → with_line wanted codes front line ≡ Err fault → result_err (judged wanted codes front line) ≡ Some fault
+pub fault_of : (wanted : Wanted) (codes : Codes) (front : Front) (line : List ℕ) (fault : TableFault) → with_line wanted codes front line ≡ Err fault → result_err (judged wanted codes front line) ≡ Some fault
 fault_of wanted codes front line fault is = unmapped (judged wanted codes front line) is
   where
     unmapped : (r : Result Added TableFault) → result_map (added_to front line) r ≡ Err fault → result_err r ≡ Some fault
     unmapped (Ok added) same = absurd (cc same)
     unmapped (Err other) same = cc same
 
-none_of : (wanted : Wanted) (codes : Codes) (front new : Front) (line : List ℕ) → with_line wanted codes front line ≡ Ok new → result_err (judged wanted codes front line) ≡ None
+pub none_of : (wanted : Wanted) (codes : Codes) (front new : Front) (line : List ℕ) → with_line wanted codes front line ≡ Ok new → result_err (judged wanted codes front line) ≡ None
 none_of wanted codes front new line is = unmapped (judged wanted codes front line) is
   where
     unmapped : (r : Result Added TableFault) → result_map (added_to front line) r ≡ Ok new → result_err r ≡ None

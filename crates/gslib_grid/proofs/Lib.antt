@@ -1,6 +1,9 @@
 pub mod Categories
+pub mod Cuts
+pub mod Faults
+pub mod Feeding
 pub mod Fronts
 pub mod Judging
 pub mod Digit
+pub mod HeldRows
 pub mod Accepted
-pub mod LongFiles

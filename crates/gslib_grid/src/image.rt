@@ -13,9 +13,9 @@ pub fn image_from_table(alloc: Global, table: &Table, shape: Shape) -> Result<Gr
     ensures { IfOk result (λ g. g ≡ field shape (map (λ row. row.cat) table.now.rows)) }
 {
     let mut grid = Grid::unknown(alloc, shape)?;
-    let rows = table.rows.as_slice();
-    for (number, row) in rows.iter().enumerate() {
-        grid.set(CellId(number as u32), row.cat);
+    let rows = &table.rows;
+    for number in 0..rows.len() {
+        grid.set(CellId(number as u32), rows.category(number));
     }
     Ok(grid)
 }

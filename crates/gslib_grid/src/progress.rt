@@ -1,5 +1,5 @@
 // What was read of a table, line by line.
-ghost use Rattle.std.specs.Prelude.{◌≡◌, ◌≤◌, ◌<◌, ◌+◌, ◌^◌, length, [], IfOk, IfErr, OnOk, OnErr};
+ghost use Rattle.std.specs.Prelude.{◌≡◌, ◌≤◌, ◌<◌, ◌+◌, ◌^◌, ◌++◌, length, [], IfOk, IfErr, OnOk, OnErr};
 ghost use Rattle.mp_text.specs.Fields.{fields_of};
 ghost use Rattle.mp_base.specs.Grid.{IsBelow};
 ghost use Rattle.gslib_grid.specs.Table.{checked_count, checked_numbers, count_in, has_columns};
@@ -11,7 +11,6 @@ use crate::want::Wanted;
 use mp_base::Codes;
 use mp_text::{has_fields, line_text, without_line_feed};
 use std::marker::Model;
-use std::slice;
 
 // The most bytes of a line before its line feed, and of a file.
 const MAX_LINE: usize = 65_536;
@@ -25,7 +24,7 @@ pub struct Progress {
     lines: u32,
     bytes: usize,
     variables: u32,
-    rows: Vec<Row>,
+    rows: Rows,
 }
 
 impl Model for Progress {
@@ -34,18 +33,19 @@ impl Model for Progress {
 
     ghost Value = { Front };
 
-    ghost view = { λ p. record { lines = p.lines; bytes = p.bytes; variables = p.variables; rows = p.rows.items } };
+    ghost view = { λ p. record { lines = p.lines; bytes = p.bytes; variables = p.variables; rows = p.rows } };
 
-    ghost invariant = { λ p. IsFront (record { lines = p.lines; bytes = p.bytes; variables = p.variables; rows = p.rows.items }) };
+    ghost invariant = { λ p. IsFront (record { lines = p.lines; bytes = p.bytes; variables = p.variables; rows = p.rows }) };
 }
 
 impl Progress {
     ghost use Rattle.gslib_grid.specs.Table.{Tells, Count, OneRow, ended, is_row, is_too_long, judged_row};
     ghost use Rattle.gslib_grid.specs.Steps.{added_to, with_line};
+    ghost use Rattle.gslib_grid.specs.Reader.{long_fault};
 
     /// Nothing was read yet.
-    pub fn new(rows: Vec<Row>) -> Progress
-        requires { rows.items ≡ [] }
+    pub fn new(rows: Rows) -> Progress
+        requires { rows ≡ [] }
         ensures { result ≡ record { lines = 0; bytes = 0; variables = 0; rows = [] } }
     {
         Progress {
@@ -85,7 +85,7 @@ impl Progress {
             return Ok(());
         }
         match self.row(wanted, codes, text) {
-            Ok(row) => self.take_row(line, &row),
+            Ok(row) => self.take_row(line, row),
             Err(fault) => Err(TableError::Fault(fault)),
         }
     }
@@ -103,18 +103,33 @@ impl Progress {
     }
 
     // Takes a line that is this row. After an error all is as it was.
-    fn take_row(&mut self, line: &[u8], row: &Row) -> Result<(), TableError>
-        requires below { IsBelow 8 row.now.cat }
+    fn take_row(&mut self, line: &[u8], row: Row) -> Result<(), TableError>
+        requires below { IsBelow 8 row.cat }
         requires some { 0 < length line.now }
         requires fits { self.old.bytes + length line.now ≤ 2 ^ 28 }
-        ensures ok { OnOk result (self.new ≡ added_to self.old line.now (OneRow row.now)) }
+        ensures ok { OnOk result (self.new ≡ added_to self.old line.now (OneRow row)) }
         ensures memory { IfErr result (λ error. error ≡ TableError.NoMemory) }
         ensures err { OnErr result (self.new ≡ self.old) }
     {
-        self.rows.extend_from_slice(slice::from_ref(row))?;
+        self.rows.push(row)?;
         self.lines += 1;
         self.bytes += line.len();
         Ok(())
+    }
+
+    /// That the next line is too long, as far as it goes: two parts of it, of which the second has a
+    /// byte.
+    pub fn long_fault(&self, begun: &[u8], part: &[u8]) -> Option<TableFault>
+        requires { 0 < length part.now }
+        ensures { result ≡ long_fault self.now (begun.now ++ part.now) }
+    {
+        let size = begun.len() + without_line_feed(part).len();
+        if size > MAX_LINE || self.bytes + begun.len() + part.len() > MAX_FILE {
+            return Some(TableFault::TooLong {
+                line: self.lines + 1,
+            });
+        }
+        None
     }
 
     // Whether the next line has too many bytes, or reaches too far into the file.
@@ -164,7 +179,7 @@ impl Progress {
         }
         Ok(Table {
             lines: self.lines,
-            rows: Rows::new(self.rows),
+            rows: self.rows,
         })
     }
 }

@@ -4,7 +4,7 @@ ghost use Rattle.gslib_grid.specs.Table.{Gives, table_of, wanted_of};
 
 use crate::fault::TableError;
 use crate::progress::Progress;
-use crate::row::Table;
+use crate::row::{Rows, Table};
 use crate::want::{Want, Wanted};
 use mp_base::Codes;
 use mp_text::next_line;
@@ -28,7 +28,7 @@ pub fn read_table(
 {
     let wanted = Wanted::of(want);
     let room = (wanted.least as usize).min(bytes.len() / 2 + 1);
-    let mut progress = Progress::new(Vec::with_capacity(alloc, room)?);
+    let mut progress = Progress::new(Rows::with_capacity(alloc, room)?);
     let mut rest = bytes;
     while let Some((line, behind)) = next_line(rest) {
         progress.take_line(&wanted, codes, line)?;

@@ -2,7 +2,7 @@
 ghost use Rattle.std.specs.Prelude.{◌≡◌, ◌≤◌, pos, negsuc, [], ◌∷◌};
 ghost use Rattle.gslib_grid.specs.Table.{wanted_of};
 
-use crate::{Row, Table, TableError, TableFault, Want, image_from_table, read_table};
+use crate::{Row, Rows, Table, TableError, TableFault, Want, image_from_table, read_table};
 use arrayvec::ArrayVec;
 use mp_base::{Cat, CellId, CodeList, Codes, Shape};
 use std::alloc::Global;
@@ -11,7 +11,7 @@ const IMAGE: &[u8] = b"line\n1\nfacies\n0\n1\n1\n0\n1\n1\n";
 
 const WELLS: &[u8] = b"wells\n4\nX\nY\nZ\nfacies\n0 0 0 1\n1 0 0 0\n2 0 0 1\n";
 
-fn codes() -> Codes
+pub fn codes() -> Codes
     ensures categories { result.categories ≡ pos 0 ∷ pos 1 ∷ [] }
     ensures missing { result.missing ≡ negsuc 9966698 }
 {
@@ -37,14 +37,19 @@ fn read_image(alloc: Global, bytes: &[u8]) -> Result<Table, TableError> {
 }
 
 // Whether the rows have these lines and categories.
-fn has_rows(rows: &[Row], first: u32, cats: &[u8]) -> bool {
+pub fn has_rows(rows: &Rows, first: u32, cats: &[u8]) -> bool {
     let mut line = first;
     let mut all = rows.len() == cats.len();
-    for (row, cat) in rows.iter().zip(cats) {
-        all = all && row.line == line && row.cat == Some(Cat(*cat));
+    for (number, cat) in cats.iter().enumerate() {
+        all = all && has_row(rows, number, line, Cat(*cat));
         line = line.wrapping_add(1);
     }
     all
+}
+
+// Whether the row of this number has this line and this category.
+fn has_row(rows: &Rows, number: usize, line: u32, cat: Cat) -> bool {
+    rows.category(number) == Some(cat) && rows.get(number).is_some_and(|row| row.line == line)
 }
 
 #[test]
@@ -59,7 +64,7 @@ fn an_image_is_read(rt: HostRuntime) {
     for (bytes, lines, first) in tables {
         let table = read_image(rt.alloc(), bytes).expect(&rt, "it is accepted");
         assert!(rt; table.lines == lines);
-        assert!(rt; has_rows(table.rows.as_slice(), first, &[0, 1, 1, 0, 1, 1]));
+        assert!(rt; has_rows(&table.rows, first, &[0, 1, 1, 0, 1, 1]));
     }
 }
 
@@ -68,7 +73,7 @@ fn the_cells_are_the_rows_in_order(rt: HostRuntime) {
     let bytes = b"line\n1\nfacies\n0\n\n 1\t\n-9966699\n0\n1\n1\n";
     let table = read_image(rt.alloc(), bytes).expect(&rt, "it is accepted");
     let shape = Shape::new(6, 1, 1).expect(&rt, "it has six cells");
-    assert!(rt; table.rows.as_slice().len() == 6);
+    assert!(rt; table.rows.len() == 6);
     let grid = image_from_table(rt.alloc(), &table, shape).expect(&rt, "memory is left");
     let cells = [0, 1, 8, 0, 1, 1];
     assert!(rt; shape.cells() == 6);
@@ -162,7 +167,7 @@ fn a_cut_image_lacks_rows(rt: HostRuntime) {
         assert!(rt; answer.err() == Some(TableError::Fault(fault_of_cut(count))));
     }
     let table = read_image(rt.alloc(), &IMAGE[..25]).expect(&rt, "it is accepted");
-    assert!(rt; has_rows(table.rows.as_slice(), 4, &[0, 1, 1, 0, 1, 1]));
+    assert!(rt; has_rows(&table.rows, 4, &[0, 1, 1, 0, 1, 1]));
 }
 
 #[test]
@@ -171,10 +176,10 @@ fn points_are_read(rt: HostRuntime) {
         columns: [1, 2, 3, 4],
     };
     let table = read(rt.alloc(), WELLS, &want).expect(&rt, "it is accepted");
-    let rows = table.rows.as_slice();
     assert!(rt; table.lines == 9);
-    assert!(rt; has_rows(rows, 7, &[1, 0, 1]));
-    for (row, x) in rows.iter().zip(&[0, 1_000_000, 2_000_000]) {
+    assert!(rt; has_rows(&table.rows, 7, &[1, 0, 1]));
+    for (number, x) in [0, 1_000_000, 2_000_000].iter().enumerate() {
+        let row = table.rows.get(number).expect(&rt, "it has three rows");
         assert!(rt; row.x == Some(*x) && row.y == Some(0) && row.z == Some(0));
     }
     let flat = Want::Points {
@@ -184,26 +189,23 @@ fn points_are_read(rt: HostRuntime) {
     let answer = read(rt.alloc(), bytes, &flat);
     assert!(rt; answer.err() == Some(TableError::Fault(TableFault::BadNumber { line: 7 })));
     let table = read(rt.alloc(), &bytes[..35], &flat).expect(&rt, "it is accepted");
-    assert!(rt;
-        table.rows.as_slice()
-            == [
-                Row {
-                    line: 5,
-                    x: Some(-500_000),
-                    y: None,
-                    z: None,
-                    cat: Some(Cat(1))
-                },
-                Row {
-                    line: 6,
-                    x: Some(2_000_000),
-                    y: None,
-                    z: None,
-                    cat: None
-                },
-            ]
-            .as_slice()
-    );
+    let first = Row {
+        line: 5,
+        x: Some(-500_000),
+        y: None,
+        z: None,
+        cat: Some(Cat(1)),
+    };
+    let second = Row {
+        line: 6,
+        x: Some(2_000_000),
+        y: None,
+        z: None,
+        cat: None,
+    };
+    assert!(rt; table.rows.get(0) == Some(first));
+    assert!(rt; table.rows.get(1) == Some(second));
+    assert!(rt; table.rows.get(2).is_none());
 }
 
 #[test]

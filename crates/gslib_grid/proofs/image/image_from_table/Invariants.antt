@@ -8,5 +8,5 @@ invariant-loop-number l =
     record {
       sides : l.grid.sides ≡ l.fn.shape;
       count : length l.grid.cells ≡ cells_of l.fn.shape;
-      front : take l.number l.grid.cells ≡ take l.number (map (λ row. row.cat) l.rows);
+      front : take l.number l.grid.cells ≡ take l.number (map (λ row. row.cat) l.table.rows);
     }
