@@ -59,7 +59,7 @@ fn placed(rt: &impl Abort, alloc: Global, bytes: &[u8], columns: [u16; 4], cells
         size: [1_000_000, 1_000_000, 1_000_000],
     };
     let placed = points_to_cells(alloc, &table, &frame).expect(rt, "memory is left");
-    assert!(rt; placed.rows as usize == table.rows.as_slice().len());
+    assert!(rt; placed.rows as usize == table.rows.len());
     placed
 }
 

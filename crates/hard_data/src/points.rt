@@ -1,15 +1,14 @@
 // Points put into the cells of a grid.
-ghost use Rattle.std.specs.Prelude.{◌≡◌, ◌+◌, ◌<◌, ◌≤◌, ◌^◌, IfOk, IfSome, Some, is_some, length, option_and_then, slice_get};
+ghost use Rattle.std.specs.Prelude.{◌≡◌, ◌+◌, ◌<◌, ◌≤◌, ◌^◌, IfOk, IfSome, Some, is_some, length, slice_get};
 ghost use Rattle.std.specs.List.{count_by};
-ghost use Rattle.mp_base.specs.Grid.{IsBelow, cells_of, field};
-ghost use Rattle.gslib_grid.specs.Rows.{AreRows};
+ghost use Rattle.mp_base.specs.Grid.{cells_of, field};
 ghost use Rattle.hard_data.specs.Nearest.{nearer_of};
 ghost use Rattle.hard_data.specs.Points.{HasSizes, cell_for as cell_for_row, cell_of_row, data_of, distance_to_centre as centre_distance, is_skipped, placed_of};
 ghost use Rattle.hard_data.specs.Kept.{RowsAreKept};
 
 use crate::axis::Axis;
-use gslib_grid::{Row, Table};
-use mp_base::{Cat, CellId, Frame, Grid, NoMemory};
+use gslib_grid::{Row, Rows, Table};
+use mp_base::{CellId, Frame, Grid, NoMemory};
 use std::alloc::Global;
 
 /// The cells that got a datum from points.
@@ -72,16 +71,18 @@ struct NearestRows {
 }
 
 // One pass over the rows.
-fn keep_nearest(alloc: Global, frame: &Frame, rows: &[Row]) -> Result<NearestRows, NoMemory>
-    requires sizes { HasSizes frame.now }
-    requires few { length rows.now ≤ 2 ^ 28 }
+fn keep_nearest(alloc: Global, frame: &Frame, rows: &Rows) -> Result<NearestRows, NoMemory>
+    requires { HasSizes frame.now }
     ensures numbers { IfOk result (λ kept. RowsAreKept frame.now rows.now (length rows.now) kept.numbers.items) }
     ensures skipped { IfOk result (λ kept. kept.skipped ≡ count_by (is_skipped frame.now) rows.now) }
 {
     let mut numbers = vec![in alloc; NO_ROW; frame.shape.cells() as usize]?;
     let mut skipped = 0;
-    for (number, row) in rows.iter().enumerate() {
-        if !place(&mut numbers, frame, rows, number as u32, row) {
+    for number in 0..rows.len() as u32 {
+        let Some(row) = rows.get(number as usize) else {
+            unreachable!()
+        };
+        if !place(&mut numbers, frame, rows, number, &row) {
             skipped += 1;
         }
     }
@@ -89,7 +90,7 @@ fn keep_nearest(alloc: Global, frame: &Frame, rows: &[Row]) -> Result<NearestRow
 }
 
 // Puts a row into its cell, where it has one; there the nearer row stays.
-fn place(numbers: &mut [u32], frame: &Frame, rows: &[Row], number: u32, row: &Row) -> bool
+fn place(numbers: &mut [u32], frame: &Frame, rows: &Rows, number: u32, row: &Row) -> bool
     requires sizes { HasSizes frame.now }
     requires row { slice_get rows.now number ≡ Some row.now }
     requires kept { RowsAreKept frame.now rows.now number numbers.old }
@@ -106,13 +107,13 @@ fn place(numbers: &mut [u32], frame: &Frame, rows: &[Row], number: u32, row: &Ro
 
 // Of the row that is kept and the row that comes the number of the nearer one. The rows come in order,
 // so of equally near ones the first stays.
-fn nearer(frame: &Frame, rows: &[Row], before: u32, number: u32, row: &Row) -> u32
+fn nearer(frame: &Frame, rows: &Rows, before: u32, number: u32, row: &Row) -> u32
     requires sizes { HasSizes frame.now }
     requires row { slice_get rows.now number ≡ Some row.now }
     ensures { slice_get rows.now result ≡ Some (nearer_of (centre_distance frame.now) (slice_get rows.now before) row.now) }
 {
     match rows.get(before as usize) {
-        Some(kept) if distance_to_centre(frame, kept) <= distance_to_centre(frame, row) => before,
+        Some(kept) if distance_to_centre(frame, &kept) <= distance_to_centre(frame, row) => before,
         _ => number,
     }
 }
@@ -121,33 +122,23 @@ fn nearer(frame: &Frame, rows: &[Row], before: u32, number: u32, row: &Row) -> u
 fn data_of_rows(
     alloc: Global,
     frame: &Frame,
-    rows: &[Row],
+    rows: &Rows,
     numbers: &[u32],
 ) -> Result<(Grid, u32), NoMemory>
-    requires rows { AreRows rows.now }
-    requires kept { RowsAreKept frame.now rows.now (length rows.now) numbers.now }
+    requires { RowsAreKept frame.now rows.now (length rows.now) numbers.now }
     ensures cells { IfOk result (λ p. p.0 ≡ field frame.now.shape (data_of frame.now rows.now)) }
     ensures used { IfOk result (λ p. p.1 ≡ count_by is_some (data_of frame.now rows.now)) }
 {
     let mut grid = Grid::unknown(alloc, frame.shape)?;
     let mut used = 0;
     for (cell, number) in numbers.iter().enumerate() {
-        let datum = datum_of(rows, *number);
+        let datum = rows.category(*number as usize);
         grid.set(CellId(cell as u32), datum);
         if datum.is_some() {
             used += 1;
         }
     }
     Ok((grid, used))
-}
-
-// The category of the row of this number, if there is one.
-fn datum_of(rows: &[Row], number: u32) -> Option<Cat>
-    requires { AreRows rows.now }
-    ensures datum { result ≡ option_and_then (λ row. row.cat) (slice_get rows.now number) }
-    ensures below { IsBelow 8 result }
-{
-    rows.get(number as usize)?.cat
 }
 
 /// Puts points into the cells of a grid. On each axis a point is in the cell whose centre is nearest, of
@@ -158,7 +149,7 @@ pub fn points_to_cells(alloc: Global, table: &Table, frame: &Frame) -> Result<Pl
     requires sizes { HasSizes frame.now }
     ensures { IfOk result (λ placed. placed ≡ placed_of frame.now table.now.rows) }
 {
-    let rows = table.rows.as_slice();
+    let rows = &table.rows;
     let nearest = keep_nearest(alloc, frame, rows)?;
     let (cells, used) = data_of_rows(alloc, frame, rows, nearest.numbers.as_slice())?;
     Ok(Placed {

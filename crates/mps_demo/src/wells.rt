@@ -27,12 +27,11 @@ pub fn draw_wells(alloc: Global, image: &Grid, words: &mut WordCursor) -> Result
     requires words { words.old ≡ place_in words.old.seed 10 }
     ensures { IfOk result (λ rows. rows ≡ wells_of words.old.seed image.now) }
 {
-    let mut rows = Vec::new(alloc);
+    let mut rows = Rows::new(alloc);
     for number in 0..WELLS {
-        let row = draw_well(image, number, words);
-        rows.extend_from_slice(&[row])?;
+        rows.push(draw_well(image, number, words))?;
     }
-    Ok(Rows::new(rows))
+    Ok(rows)
 }
 
 // The well of this number, by the next two words.

@@ -12,12 +12,12 @@ loop-cell-preserved c =
     let all_data = data_of c.args.frame.now c.args.rows.now in
     let cells = c.loop-cell.grid.cells in
     let n = c.loop-cell.cell in
-    let datum = c.datum_of-datum.result in
+    let datum = c.category-datum.result in
     let given = c.loop-cell.invariant in
-    let inside : n < cells_of c.args.frame.now.shape = omega (arith, c.requires.kept.count) in
+    let inside : n < cells_of c.args.frame.now.shape = omega (arith, c.requires.count) in
     let in_data : n < length all_data = omega (arith, length-data_of c.args.frame.now c.args.rows.now) in
     let in_cells : n < length cells = omega (arith, given.count) in
-    let value : datum ≡ get_or all_data n None = c.datum_of-datum.ensures.datum ∙ datum_at c.args.frame.now c.args.rows.now c.args.numbers.now n _ c.requires.kept inside refl in
+    let value : datum ≡ get_or all_data n None = c.category-datum.ensures.category ∙ datum_at c.args.frame.now c.args.rows.now c.args.numbers.now n _ c.requires inside refl in
     let counted = used_more c.args.frame.now c.args.rows.now n datum in_data value in
     let used_is : c.if-is_some.used ≡ c.loop-cell.used + cond (is_some datum) 1 0 =
     elim c.if-is_some.branch [
@@ -39,11 +39,11 @@ pub returns-clause-cells : goal.returns-clause-cells
 returns-clause-cells c =
     let all_data = data_of c.args.frame.now c.args.rows.now in
     let given = c.loop-cell.invariant in
-    let all : take c.loop-cell.cell all_data ≡ all_data = take_all c.loop-cell.cell all_data (omega (arith, c.requires.kept.count, length-data_of c.args.frame.now c.args.rows.now)) in
-    let cells : c.loop-cell.grid.cells ≡ all_data = sym (take_all c.loop-cell.cell c.loop-cell.grid.cells (omega (arith, c.requires.kept.count, given.count))) ∙ given.front ∙ all in
+    let all : take c.loop-cell.cell all_data ≡ all_data = take_all c.loop-cell.cell all_data (omega (arith, c.requires.count, length-data_of c.args.frame.now c.args.rows.now)) in
+    let cells : c.loop-cell.grid.cells ≡ all_data = sym (take_all c.loop-cell.cell c.loop-cell.grid.cells (omega (arith, c.requires.count, given.count))) ∙ given.front ∙ all in
     λ i. field (given.sides i) (cells i)
 
 pub returns-clause-used : goal.returns-clause-used
 returns-clause-used c =
     let all_data = data_of c.args.frame.now c.args.rows.now in
-    c.loop-cell.invariant.used ∙ ap (count_by is_some) (take_all c.loop-cell.cell all_data (omega (arith, c.requires.kept.count, length-data_of c.args.frame.now c.args.rows.now)))
+    c.loop-cell.invariant.used ∙ ap (count_by is_some) (take_all c.loop-cell.cell all_data (omega (arith, c.requires.count, length-data_of c.args.frame.now c.args.rows.now)))
