@@ -1,5 +1,5 @@
 // The rows of a realisation.
-ghost use Rattle.std.specs.Prelude.{◌≡◌, ◌++◌, ◌<◌, All, IsSome, OnErr, OnOk, length, take};
+ghost use Rattle.std.specs.Prelude.{◌≡◌, ◌++◌, ◌<◌, ◌≤◌, All, IsSome, OnErr, OnOk, length, slice_range, take};
 ghost use Rattle.mp_base.specs.Grid.{IsBelow};
 ghost use Rattle.realisation_out.specs.Text.{rows_text, cell_line};
 
@@ -13,8 +13,26 @@ pub fn push_rows(to: &mut Vec<u8>, grid: &Grid, codes: &Codes) -> Result<(), NoM
     ensures text { OnOk result (to.new.items ≡ to.old.items ++ rows_text codes.now.categories grid.now.cells) }
     ensures err { OnErr result (to.new.items ≡ to.old.items) }
 {
+    push_rows_between(to, grid, codes, 0, grid.shape().cells())
+}
+
+/// The same of the cells from one number up to another, which is left out, or up to the last cell. So the
+/// rows of a large grid can be made part by part.
+pub fn push_rows_between(
+    to: &mut Vec<u8>,
+    grid: &Grid,
+    codes: &Codes,
+    from: u32,
+    until: u32,
+) -> Result<(), NoMemory>
+    requires known { All IsSome grid.now.cells }
+    requires below { All (IsBelow (length codes.now.categories)) grid.now.cells }
+    requires order { from ≤ until }
+    ensures text { OnOk result (to.new.items ≡ to.old.items ++ rows_text codes.now.categories (slice_range grid.now.cells from until)) }
+    ensures err { OnErr result (to.new.items ≡ to.old.items) }
+{
     let before = to.len();
-    let pushed = push_cells(to, grid, codes);
+    let pushed = push_cells(to, grid, codes, from, until);
     if pushed.is_err() {
         to.truncate(before);
     }
@@ -22,12 +40,20 @@ pub fn push_rows(to: &mut Vec<u8>, grid: &Grid, codes: &Codes) -> Result<(), NoM
 }
 
 // The same, but without memory for it some rows may have been appended.
-fn push_cells(to: &mut Vec<u8>, grid: &Grid, codes: &Codes) -> Result<(), NoMemory>
+fn push_cells(
+    to: &mut Vec<u8>,
+    grid: &Grid,
+    codes: &Codes,
+    from: u32,
+    until: u32,
+) -> Result<(), NoMemory>
     requires below { All (IsBelow (length codes.now.categories)) grid.now.cells }
-    ensures text { OnOk result (to.new.items ≡ to.old.items ++ rows_text codes.now.categories grid.now.cells) }
+    requires order { from ≤ until }
+    ensures text { OnOk result (to.new.items ≡ to.old.items ++ rows_text codes.now.categories (slice_range grid.now.cells from until)) }
     ensures err { OnErr result (take (length to.old.items) to.new.items ≡ to.old.items) }
 {
-    for number in 0..grid.shape().cells() {
+    let end = until.min(grid.shape().cells());
+    for number in from..end {
         push_cell(to, grid.get(CellId(number)), codes)?;
     }
     Ok(())
