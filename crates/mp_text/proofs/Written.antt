@@ -1,11 +1,11 @@
 -- Lines and fields that were written one behind another are found where they were put.
-use Rattle.std.proofs.Common.{◌≡◌, ℕ, ◌-◌, Bool, true, false, cond, not, ◌&&◌, List, [], ◌∷◌, ◌++◌, length, take, drop, map, get_or, suc, ◌+◌, refl, ap, sym, ◌∙◌, arith, ltb}
+use Rattle.std.proofs.Common.{◌≡◌, ℕ, ◌-◌, Bool, true, false, cond, not, ◌&&◌, List, [], ◌∷◌, ◌++◌, length, take, drop, map, get_or, suc, ◌+◌, refl, ap, ◌∙◌, arith, ltb}
 use Rattle.std.specs.Prelude.{◌==◌}
 use Rattle.std.specs.List.{filter, list_all, onto_first, position_or_len, slice_split}
 use Rattle.std.proofs.lemmas.Bool.{and_parts, and_from, not-true, lt-ltb}
 use Rattle.std.proofs.lemmas.List.{get_or_at, length_push, take_at}
 use Rattle.bstr.specs.Records.{ends_with_byte, trim_record}
-use Rattle.mp_text.specs.Lines.{line_texts, lines_of, text_of, without_line_feed}
+use Rattle.mp_text.specs.Lines.{line_texts, lines_of, text_of}
 use Rattle.mp_text.specs.Fields.{fields_of, from_visible, is_blank, is_filled, is_visible}
 
 -- no byte passes

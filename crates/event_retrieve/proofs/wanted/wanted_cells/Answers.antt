@@ -1,4 +1,4 @@
-use Rattle.std.proofs.Common.{arith, ◌≡◌, ◌+◌, ◌∙◌, ◌++◌, ◌∷◌, [], ap, ℕ, List, Option, map, sym}
+use Rattle.std.proofs.Common.{arith, ◌+◌, ◌∙◌, ◌++◌, ◌∷◌, [], ap, ℕ, List, Option, map, sym}
 use Rattle.std.specs.List.{range_with_len}
 use Rattle.std.proofs.lemmas.List.FromFn.{map-range_with_len_more}
 use Rattle.event_retrieve.specs.Gather.{wanted_cell}
