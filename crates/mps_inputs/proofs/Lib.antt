@@ -8,3 +8,4 @@ pub mod Points
 pub mod Stages
 pub mod Told
 pub mod NoUsage
+pub mod TablePieces

@@ -1,13 +1,10 @@
 -- What was read of the files that a command names, stage after stage.
-use Rattle.std.proofs.Common.{◌≡◌, ◌⊎◌, inl, inr, refl, sym, ◌∙◌, ap, subst, ℕ, ◌^◌, ◌<◌, ◌≤◌, List, length, Bool, true, false, cond, ltb, Option, Some, None, Result, Ok, Err, arith}
+use Rattle.std.proofs.Common.{◌≡◌, ◌⊎◌, inl, inr, refl, sym, ◌∙◌, ap, subst, ℕ, ◌<◌, ◌≤◌, List, length, Bool, true, false, cond, ltb, Option, Some, None, Result, Ok, Err, arith}
 use Rattle.std.specs.Prelude.{IfErr, IfOk, IsTrue, IsSomeAnd, ok_or}
 use Rattle.std.specs.Str.{bytes_eq}
 use Rattle.std.proofs.lemmas.Bool.{false≢true, lt-ltb}
 use Rattle.std.proofs.lemmas.List.{length-take}
 use Rattle.std.proofs.lemmas.Slice.Eq.{bytes_eq-Decides}
-use Rattle.gslib_grid.proofs.LongFiles.{table_of_front}
-use Rattle.gslib_grid.specs.declared.row.Table.{Table}
-use Rattle.gslib_grid.specs.declared.fault.TableFault.{TableFault}
 use Rattle.mp_outside.specs.Causes.{Rose}
 use Rattle.mp_outside.specs.Contents.{Held, IsReadUpTo, SameHeld}
 use Rattle.mp_params.specs.Params.{ParamsValue}
@@ -17,10 +14,10 @@ use Rattle.mp_params.specs.declared.fault.ParamsFault.TheVariants.{TooLong}
 use Rattle.mps_inputs.specs.Answers.{IsInputFault, IsRefusal}
 use Rattle.mp_text.specs.Chain.{◌>>=◌}
 use Rattle.mps_inputs.specs.Files.{IsReadFault}
-use Rattle.mps_inputs.specs.Inputs.{codes_in, image_in, image_with, inputs_of, inputs_with, judged, no_points, parameters_in, points_in, points_of, points_with, read_as, tables_of, wanted_image, wanted_points, with_points}
+use Rattle.mps_inputs.specs.Inputs.{image_in, inputs_of, inputs_with, judged, no_points, parameters_in, points_in, points_of, read_as, tables_of, with_points}
 use Rattle.mp_outside.specs.Seen.{FilesSeen, OnlyReads, without}
 use Rattle.mps_inputs.specs.declared.fault.Fault.{Fault}
-use Rattle.mps_inputs.specs.declared.fault.Fault.TheVariants.{Usage, Parameters, CannotRead, CannotWrite, Image, Points, OutOfMemory, CannotReport}
+use Rattle.mps_inputs.specs.declared.fault.Fault.TheVariants.{Usage, Parameters, CannotRead, CannotWrite, OutOfMemory, CannotReport}
 
 -- A file that is longer than its limit is judged by the part that was read.
 
@@ -35,18 +32,6 @@ too_long b over = refused_first _ (ltb 65536 (length b)) (lt-ltb 65536 (length b
 pub parameters_of_front : (bytes got : List ℕ) → IsReadUpTo 65536 bytes got → parameters_in got ≡ parameters_in bytes
 parameters_of_front bytes got (front, inl all) = ap parameters_in all
 parameters_of_front bytes got (front, inr long) = too_long got long ∙ sym (too_long bytes (omega (arith, length-take (length got) bytes, ap length front)))
-
-pub image_of_front : (p : ParamsValue) (bytes got : List ℕ) → IsReadUpTo (2 ^ 28) bytes got → image_in p got ≡ image_in p bytes
-unfolding image_in
-image_of_front p bytes got (front, inl all) = ap (λ (b : List ℕ). image_in p b) all
-image_of_front p bytes got (front, inr long) =
-    ap (λ (r : Result Table TableFault). judged Image r >>= image_with p) (table_of_front (wanted_image p) (codes_in p) bytes got front long)
-
-pub points_of_front : (p : ParamsValue) (bytes got : List ℕ) → IsReadUpTo (2 ^ 28) bytes got → points_in p got ≡ points_in p bytes
-unfolding points_in
-points_of_front p bytes got (front, inl all) = ap (λ (b : List ℕ). points_in p b) all
-points_of_front p bytes got (front, inr long) =
-    ap (λ (r : Result Table TableFault). judged Points r >>= points_with p) (table_of_front (wanted_points p) (codes_in p) bytes got front long)
 
 -- what was read is judged as the file is
 pub as_file : {A : Type 0} (made : List ℕ → Result A Fault) (limit : ℕ) (content : Option (List ℕ)) (got : List ℕ) → ((bytes : List ℕ) → IsReadUpTo limit bytes got → made got ≡ made bytes) → IsSomeAnd content (λ bytes. IsReadUpTo limit bytes got) → IsSomeAnd content (λ bytes. made got ≡ made bytes)

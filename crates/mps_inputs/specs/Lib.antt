@@ -9,3 +9,4 @@ pub mod Answers
 pub mod Files
 -- What helps to say it.
 pub mod Judged
+pub mod Tables

@@ -8,12 +8,20 @@ use crate::fault::Fault;
 use mp_base::NoMemory;
 use mp_params::ParamsError;
 use seq_engine::RunError;
-use std::alloc::AllocFailed;
+use std::alloc::{AllocError, AllocFailed};
 
 impl From<NoMemory> for Fault {
     ghost from_gives = { λ _ fault. fault ≡ WantOfMemory };
 
     fn from(_: NoMemory) -> Fault {
+        Fault::OutOfMemory
+    }
+}
+
+impl From<AllocError> for Fault {
+    ghost from_gives = { λ _ fault. fault ≡ WantOfMemory };
+
+    fn from(_: AllocError) -> Fault {
         Fault::OutOfMemory
     }
 }

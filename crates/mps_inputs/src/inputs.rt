@@ -1,15 +1,18 @@
 // The inputs of a command, read and judged in their order.
-ghost use Rattle.std.specs.Prelude.{◌≡◌, ◌≤◌, All, IfErr, IfOk, Ok, length};
+ghost use Rattle.std.specs.Prelude.{◌≡◌, ◌≢◌, ◌≤◌, All, AllPairs, Contains, IfErr, IfOk, Ok, length};
 ghost use Rattle.mp_base.specs.Grid.{IsBelow};
+ghost use Rattle.gslib_grid.specs.Table.{wanted_of};
 ghost use Rattle.mp_outside.specs.Seen.{OnlyReads};
 ghost use Rattle.hard_data.specs.Points.{HasSizes};
 ghost use Rattle.mps_inputs.specs.Answers.{IsAccepted, IsInputFault, IsRefusal};
-ghost use Rattle.mps_inputs.specs.Inputs.{IsInputs, codes_in, frame_of as frame_with, image_in as image_in_file, inputs_of, inputs_with, no_points as without_points, parameters_in as parameters_in_file, points_in as points_in_file, points_of, read_as, tables_of};
+ghost use Rattle.mps_inputs.specs.Inputs.{IsInputs, codes_in, frame_of as frame_with, image_in as image_in_file, image_with, inputs_of, inputs_with, no_points as without_points, parameters_in as parameters_in_file, points_in as points_in_file, points_of, points_with, read_as, tables_of, wanted_image as image_wanted, wanted_points as points_wanted};
+ghost use Rattle.mps_inputs.specs.Tables.{IsTable};
 
 use crate::fault::{Fault, Name};
 use crate::files::read_file;
+use crate::tables::read_table_file;
 use arrayvec::ArrayVec;
-use gslib_grid::{TableError, Want, image_from_table, read_table};
+use gslib_grid::{Table, Want, image_from_table};
 use hard_data::{Placed, points_to_cells};
 use mp_base::{CodeList, Codes, Frame, Grid, NoMemory};
 use mp_outside::Files;
@@ -27,10 +30,8 @@ pub struct Inputs {
     pub points: Placed,
 }
 
-// The most bytes of a parameter file, and of a table.
+// The most bytes of a parameter file.
 const PARAMETERS_LIMIT: u32 = 1 << 16;
-
-const TABLE_LIMIT: u32 = 1 << 28;
 
 /// Reads and judges the parameter file, then the image that it names, and then the point file, where
 /// it names one. No bytes of the files are kept.
@@ -59,7 +60,7 @@ pub fn read_tables<F: Files>(
     ensures fault { IfErr result (IsInputFault (tables_of parameters) (F.seen files.old) (F.seen files.new)) }
     ensures only { OnlyReads (F.seen files.old) (F.seen files.new) }
 {
-    let image = read_image(alloc, files, &parameters, &codes)?;
+    let image = read_image(alloc, files, &parameters)?;
     read_behind_image(alloc, files, parameters, codes, image)
 }
 
@@ -80,7 +81,7 @@ fn read_behind_image<F: Files>(
     ensures fault { IfErr result (IsInputFault (inputs_with parameters image) (F.seen files.old) (F.seen files.new)) }
     ensures only { OnlyReads (F.seen files.old) (F.seen files.new) }
 {
-    let points = read_points(alloc, files, &parameters, &codes)?;
+    let points = read_points(alloc, files, &parameters)?;
     Ok(Inputs {
         parameters,
         codes,
@@ -109,51 +110,46 @@ fn parameters_in(alloc: Global, bytes: &[u8]) -> Result<Params, Fault>
 }
 
 // The training image that parameters name.
-fn read_image<F: Files>(
-    alloc: Global,
-    files: &mut F,
-    parameters: &Params,
-    codes: &Codes,
-) -> Result<Grid, Fault>
-    requires { codes.now ≡ codes_in parameters.now }
+fn read_image<F: Files>(alloc: Global, files: &mut F, parameters: &Params) -> Result<Grid, Fault>
     ensures read { IsAccepted (read_as (image_in_file parameters.now) parameters.now.image) (F.seen files.old) result }
     ensures sides { IfOk result (λ image. image.sides ≡ parameters.now.image_shape) }
     ensures below { IfOk result (λ image. All (IsBelow (length parameters.now.categories)) image.cells) }
     ensures fault { IfErr result (IsInputFault (read_as (image_in_file parameters.now) parameters.now.image) (F.seen files.old) (F.seen files.new)) }
     ensures only { OnlyReads (F.seen files.old) (F.seen files.new) }
 {
-    let bytes = read_file(alloc, files, parameters.image.as_str(), TABLE_LIMIT)?;
-    image_in(alloc, parameters, codes, &bytes)
+    let table = read_table_file(
+        alloc,
+        files,
+        parameters.image.as_str(),
+        wanted_image(parameters),
+        distinct_codes(parameters),
+    )?;
+    Ok(image_of(alloc, parameters, &table)?)
 }
 
-// The training image that a file's bytes give.
-#[tactic(auto, unfolding(crate::specs::Inputs::image_in))]
-fn image_in(alloc: Global, parameters: &Params, codes: &Codes, bytes: &[u8]) -> Result<Grid, Fault>
-    requires { codes.now ≡ codes_in parameters.now }
-    ensures given { IfOk result (λ image. image_in_file parameters.now bytes.now ≡ Ok image) }
-    ensures sides { IfOk result (λ image. image.sides ≡ parameters.now.image_shape) }
-    ensures below { IfOk result (λ image. All (IsBelow (length parameters.now.categories)) image.cells) }
-    ensures fault { IfErr result (IsRefusal (image_in_file parameters.now bytes.now)) }
+// What is asked of the image's table.
+fn wanted_image(parameters: &Params) -> Want
+    ensures want { result ≡ image_wanted parameters.now }
+    ensures column { 1 ≤ (wanted_of result).category }
 {
-    let want = Want::Image {
+    Want::Image {
         column: parameters.image_column,
         rows: parameters.image_shape.cells(),
-    };
-    match read_table(alloc, bytes, &want, codes) {
-        Ok(table) => Ok(image_from_table(alloc, &table, parameters.image_shape)?),
-        Err(TableError::Fault(fault)) => Err(Fault::Image(fault)),
-        Err(TableError::NoMemory) => Err(Fault::OutOfMemory),
     }
 }
 
+// The training image that a table gives.
+fn image_of(alloc: Global, parameters: &Params, table: &Table) -> Result<Grid, NoMemory>
+    requires { IsTable (image_wanted parameters.now) (codes_in parameters.now) table.now }
+    ensures given { IfOk result (λ image. image_with parameters.now table.now ≡ Ok image) }
+    ensures sides { IfOk result (λ image. image.sides ≡ parameters.now.image_shape) }
+    ensures below { IfOk result (λ image. All (IsBelow (length parameters.now.categories)) image.cells) }
+{
+    image_from_table(alloc, table, parameters.image_shape)
+}
+
 // The hard data of the point file, where parameters name one.
-fn read_points<F: Files>(
-    alloc: Global,
-    files: &mut F,
-    parameters: &Params,
-    codes: &Codes,
-) -> Result<Placed, Fault>
-    requires { codes.now ≡ codes_in parameters.now }
+fn read_points<F: Files>(alloc: Global, files: &mut F, parameters: &Params) -> Result<Placed, Fault>
     ensures read { IsAccepted (points_of parameters.now parameters.now.points) (F.seen files.old) result }
     ensures sides { IfOk result (λ points. points.cells.sides ≡ parameters.now.grid) }
     ensures below { IfOk result (λ points. All (IsBelow (length parameters.now.categories)) points.cells.cells) }
@@ -161,7 +157,7 @@ fn read_points<F: Files>(
     ensures only { OnlyReads (F.seen files.old) (F.seen files.new) }
 {
     match &parameters.points {
-        Some(name) => read_point_file(alloc, files, parameters, codes, name),
+        Some(name) => read_point_file(alloc, files, parameters, name),
         None => Ok(no_points(alloc, parameters)?),
     }
 }
@@ -171,42 +167,42 @@ fn read_point_file<F: Files>(
     alloc: Global,
     files: &mut F,
     parameters: &Params,
-    codes: &Codes,
     name: &FileName,
 ) -> Result<Placed, Fault>
-    requires { codes.now ≡ codes_in parameters.now }
     ensures read { IsAccepted (read_as (points_in_file parameters.now) name.now) (F.seen files.old) result }
     ensures sides { IfOk result (λ points. points.cells.sides ≡ parameters.now.grid) }
     ensures below { IfOk result (λ points. All (IsBelow (length parameters.now.categories)) points.cells.cells) }
     ensures fault { IfErr result (IsInputFault (read_as (points_in_file parameters.now) name.now) (F.seen files.old) (F.seen files.new)) }
     ensures only { OnlyReads (F.seen files.old) (F.seen files.new) }
 {
-    let bytes = read_file(alloc, files, name.as_str(), TABLE_LIMIT)?;
-    points_in(alloc, parameters, codes, &bytes)
+    let table = read_table_file(
+        alloc,
+        files,
+        name.as_str(),
+        wanted_points(parameters),
+        distinct_codes(parameters),
+    )?;
+    Ok(hard_data_of(alloc, parameters, &table)?)
 }
 
-// The hard data that a file's bytes give.
-#[tactic(auto, unfolding(crate::specs::Inputs::points_in))]
-fn points_in(
-    alloc: Global,
-    parameters: &Params,
-    codes: &Codes,
-    bytes: &[u8],
-) -> Result<Placed, Fault>
-    requires { codes.now ≡ codes_in parameters.now }
-    ensures given { IfOk result (λ points. points_in_file parameters.now bytes.now ≡ Ok points) }
+// What is asked of the points' table.
+fn wanted_points(parameters: &Params) -> Want
+    ensures want { result ≡ points_wanted parameters.now }
+    ensures column { 1 ≤ (wanted_of result).category }
+{
+    Want::Points {
+        columns: parameters.point_columns,
+    }
+}
+
+// The hard data that a table gives.
+fn hard_data_of(alloc: Global, parameters: &Params, table: &Table) -> Result<Placed, NoMemory>
+    requires { IsTable (points_wanted parameters.now) (codes_in parameters.now) table.now }
+    ensures given { IfOk result (λ points. points_with parameters.now table.now ≡ Ok points) }
     ensures sides { IfOk result (λ points. points.cells.sides ≡ parameters.now.grid) }
     ensures below { IfOk result (λ points. All (IsBelow (length parameters.now.categories)) points.cells.cells) }
-    ensures fault { IfErr result (IsRefusal (points_in_file parameters.now bytes.now)) }
 {
-    let want = Want::Points {
-        columns: parameters.point_columns,
-    };
-    match read_table(alloc, bytes, &want, codes) {
-        Ok(table) => Ok(points_to_cells(alloc, &table, &frame_of(parameters))?),
-        Err(TableError::Fault(fault)) => Err(Fault::Points(fault)),
-        Err(TableError::NoMemory) => Err(Fault::OutOfMemory),
-    }
+    points_to_cells(alloc, table, &frame_of(parameters))
 }
 
 // Where the grid lies.
@@ -236,6 +232,15 @@ fn no_points(alloc: Global, parameters: &Params) -> Result<Placed, NoMemory>
 /// The codes of the categories, and of a missing value.
 pub fn codes_of(parameters: &Params) -> Codes
     ensures { result ≡ codes_in parameters.now }
+{
+    distinct_codes(parameters)
+}
+
+// The same: no two categories have one code, and the missing code is none of theirs.
+fn distinct_codes(parameters: &Params) -> Codes
+    ensures codes { result ≡ codes_in parameters.now }
+    ensures differ { AllPairs (λ a b. a ≢ b) result.categories }
+    ensures missing { ¬ (Contains result.categories result.missing) }
 {
     Codes {
         categories: list_of(parameters.categories.as_slice()),

@@ -12,6 +12,7 @@ mod line;
 mod setup;
 mod statuses;
 mod stores;
+mod tables;
 
 pub use fault::{Fault, Name, ScheduleFault};
 pub use files::{append_output, create_output, read_file, report};

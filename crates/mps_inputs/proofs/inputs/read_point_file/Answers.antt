@@ -1,31 +1,33 @@
-use Rattle.std.proofs.Common.{◌≡◌, ◌^◌, subst, ℕ, List, Ok}
-use Rattle.std.specs.Prelude.{IfErr, IfOk, IsSomeAnd, IsTrue}
-use Rattle.mp_outside.specs.Contents.{IsReadUpTo}
-use Rattle.mps_inputs.specs.Answers.{IsRefusal}
-use Rattle.mps_inputs.specs.Inputs.{points_in}
-use Rattle.mps_inputs.proofs.Reading.{all_accepted, all_refused, as_file, points_of_front}
+use Rattle.std.proofs.Common.{◌∙◌, sym, subst, Result}
+use Rattle.std.proofs.lemmas.Result.{err_from_is_err_and}
+use Rattle.gslib_grid.specs.declared.row.Table.{Table}
+use Rattle.mp_outside.specs.Contents.{Held}
+use Rattle.mps_inputs.specs.Answers.{IsInputFault}
+use Rattle.mps_inputs.specs.Inputs.{codes_in, points_in, points_with, read_as, wanted_points}
+use Rattle.mps_inputs.specs.Tables.{table_in}
+use Rattle.mps_inputs.specs.declared.fault.Fault.{Fault}
+use Rattle.mps_inputs.proofs.TablePieces.{given_by, refused_by}
 use Rattle.mps_inputs.proofs.inputs.read_point_file.Goals as goal
 
+pub returns-in_err-table-clause-fault : goal.returns-in_err-table-clause-fault
+unfolding points_in
+returns-in_err-table-clause-fault g c =
+    let before = g.F.Files.seen c.args.files.now in
+    let now = g.F.Files.seen c.read_table_file.new.files in
+    let p = c.args.parameters.now in
+    let name = c.as_str.ensures.text in
+    let e = err_from_is_err_and c.from_residual.result c.from_residual.ensures.1 in
+    rw (e.1, e.2)
+    (refused_by (table_in (wanted_points p) (codes_in p)) (points_with p) c.args.name.now before now c.in_err-table.field-0.0
+    (subst (λ (outcome : Held → Result Table Fault). IsInputFault outcome before now c.in_err-table.field-0.0)
+    (λ i. read_as (table_in (c.wanted_points.ensures.want i) (c.distinct_codes.ensures.codes i)) (name i)) c.in_err-table.ensures.fault))
+
 pub returns-clause-read : goal.returns-clause-read
+unfolding points_in
 returns-clause-read g c =
     let before = g.F.Files.seen c.args.files.now in
-    let now = g.F.Files.seen c.read_file.new.files in
     let p = c.args.parameters.now in
-    let got = c.in_ok-bytes.bytes.items in
-    let read : IsTrue before.tells → IsSomeAnd (before.held c.args.name.now) (λ bytes. points_in p got ≡ points_in p bytes) =
-    λ told. as_file (points_in p) (2 ^ 28) (before.held c.args.name.now) got (λ bytes. points_of_front p bytes got)
-    (subst (λ (n : List ℕ). IsSomeAnd (before.held n) (λ bytes. IsReadUpTo (2 ^ 28) bytes got)) (c.as_str.ensures.text) (c.in_ok-bytes.ensures.read told)) in
-    all_accepted (points_in p) c.args.name.now before now got read c.points_in.result
-    (subst (λ (b : List ℕ). IfOk c.points_in.result (λ points. points_in p b ≡ Ok points)) c.deref.ensures.value c.points_in.ensures.given)
-
-pub returns-clause-fault : goal.returns-clause-fault
-returns-clause-fault g c =
-    let before = g.F.Files.seen c.args.files.now in
-    let now = g.F.Files.seen c.read_file.new.files in
-    let p = c.args.parameters.now in
-    let got = c.in_ok-bytes.bytes.items in
-    let read : IsTrue before.tells → IsSomeAnd (before.held c.args.name.now) (λ bytes. points_in p got ≡ points_in p bytes) =
-    λ told. as_file (points_in p) (2 ^ 28) (before.held c.args.name.now) got (λ bytes. points_of_front p bytes got)
-    (subst (λ (n : List ℕ). IsSomeAnd (before.held n) (λ bytes. IsReadUpTo (2 ^ 28) bytes got)) (c.as_str.ensures.text) (c.in_ok-bytes.ensures.read told)) in
-    all_refused (points_in p) c.args.name.now before now got read c.points_in.result
-    (subst (λ (b : List ℕ). IfErr c.points_in.result (IsRefusal (points_in p b))) c.deref.ensures.value c.points_in.ensures.fault)
+    let name = c.as_str.ensures.text in
+    given_by (table_in (wanted_points p) (codes_in p)) (points_with p) c.args.name.now before c.in_ok-table.table c.in_ok-hard_data_of.field-0
+    (λ told. (λ i. read_as (table_in (sym c.wanted_points.ensures.want i) (sym c.distinct_codes.ensures.codes i)) (sym name i) before.held) ∙ c.in_ok-table.ensures.read told)
+    c.in_ok-hard_data_of.ensures.given
