@@ -9,9 +9,13 @@ mod settle;
 mod shared;
 #[cfg(test)]
 mod tests;
+mod vet;
+#[cfg(test)]
+mod vet_tests;
 mod word;
 
 pub use board::Board;
 pub use claim::{Claim, Ticket};
 pub use keep::Keep;
 pub use settle::Settle;
+pub use vet::OfferFault;

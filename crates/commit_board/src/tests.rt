@@ -33,7 +33,7 @@ fn blank(alloc: Global, cells: u32) -> Result<Grid, NoMemory>
 }
 
 // An image of one row, of two categories.
-fn row(alloc: Global, cats: &[u8]) -> Result<Grid, NoMemory>
+pub(crate) fn row(alloc: Global, cats: &[u8]) -> Result<Grid, NoMemory>
     requires some { 1 ≤ length cats.now }
     requires few { length cats.now ≤ 100 }
     requires below { All (λ k. k < 2) cats.now }
@@ -47,7 +47,7 @@ fn row(alloc: Global, cats: &[u8]) -> Result<Grid, NoMemory>
 }
 
 // A plan over a row of unknown cells, by the words of the seed 0 and the stream 0.
-fn plan_of<'a>(
+pub(crate) fn plan_of<'a>(
     alloc: Global,
     eroded: &'a Eroded<'a>,
     cells: u32,
@@ -87,7 +87,7 @@ fn committed(cell: u32, cat: u8) -> Settle {
 }
 
 // Counts the front again and settles it, until so many nodes are committed.
-fn commit_up_to(board: &mut Board, plan: &LevelPlan<'_>, eroded: &Eroded<'_>, front: u32)
+pub(crate) fn commit_up_to(board: &mut Board, plan: &LevelPlan<'_>, eroded: &Eroded<'_>, front: u32)
     requires fits { Fits plan.now board.old }
     requires source { plan.now.source ≡ eroded.now }
     ensures fits { Fits plan.now board.new }
@@ -185,7 +185,7 @@ struct Case {
 }
 
 // How many data, which reach and which counts are retained.
-type Expected = (u8, u8, [u32; 2]);
+pub(crate) type Expected = (u8, u8, [u32; 2]);
 
 // What is seen of it: what its offer retains, what settling it is answered, and what counting the front
 // again retains afterwards.
