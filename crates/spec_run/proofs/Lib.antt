@@ -4,3 +4,4 @@ pub mod Draining
 pub mod Telling
 pub mod Showing
 pub mod Early
+pub mod Vetted

@@ -1,13 +1,17 @@
 -- The bench: the board with the writer of the cells, and how its calls change the board.
-use Rattle.std.specs.Prelude.{◌≡◌, ℕ, zero, suc, ◌+◌, ◌-◌, Bool, true, false, ◌==◌, if◌then◌else◌, List, is_some}
+use Rattle.std.specs.Prelude.{◌≡◌, ℕ, zero, suc, ◌+◌, ◌-◌, Bool, true, false, ◌==◌, if◌then◌else◌, List, Option, Some, None, is_some}
 use Rattle.mp_base.specs.declared.cell.Entry.{Entry}
 use Rattle.event_retrieve.specs.declared.offer.Offer.{Offer}
 use Rattle.event_retrieve.specs.Plan.{Plan}
 use Rattle.event_retrieve.specs.Sequential.{sequential}
 use Rattle.commit_board.specs.declared.settle.Settle.{Settle}
 use Rattle.commit_board.specs.declared.settle.Settle.TheVariants.{Committed, Ended as PathEnded, NotOffered, Stale}
+use Rattle.commit_board.specs.declared.vet.OfferFault.{OfferFault}
 use Rattle.commit_board.specs.Board.{State, Fits, after_keep, after_settle, front, front_offer, keep_of, kept_at, recounted, settle_of, with_front}
+use Rattle.commit_board.specs.Vet.{offer_fault}
 use Rattle.shared_grid.specs.Rule.{Progress}
+use Rattle.spec_run.specs.declared.bench.Foreign.{Foreign}
+use Rattle.spec_run.specs.declared.bench.Foreign.TheVariants.{Refused, Taken}
 use Rattle.spec_run.specs.declared.bench.Pushed.{Pushed}
 use Rattle.spec_run.specs.declared.bench.Pushed.TheVariants.{Front, Ended}
 
@@ -54,6 +58,22 @@ drained p b = drained_by p (b.nodes - front b) b
 -- the board after an offer: kept or not, and then drained
 abbrev pub after_offer : Plan → State → Offer → State
 after_offer p b o = drained p (after_keep b o (keep_of b o))
+
+-- what an offer of a stranger is answered by its fault, if it has one, and the board after it
+abbrev pub vetted_by : State → Offer → Option OfferFault → Foreign
+vetted_by b o None = Taken (keep_of b o)
+vetted_by b o (Some fault) = Refused fault
+
+abbrev pub after_vetting : Plan → State → Offer → Option OfferFault → State
+after_vetting p b o None = after_offer p b o
+after_vetting p b o (Some fault) = b
+
+-- an offer of a stranger is refused by its fault, and otherwise taken as one of a worker
+abbrev pub foreign_of : Plan → State → Offer → Foreign
+foreign_of p b o = vetted_by b o (offer_fault p (front b) o)
+
+abbrev pub after_foreign : Plan → State → Offer → State
+after_foreign p b o = after_vetting p b o (offer_fault p (front b) o)
 
 -- the whole path is committed
 abbrev pub is_ended : State → Bool

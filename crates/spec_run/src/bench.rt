@@ -6,10 +6,10 @@ ghost use Rattle.event_retrieve.specs.Offer.{IsSound};
 ghost use Rattle.event_retrieve.specs.Plan.{nodes_in};
 ghost use Rattle.event_retrieve.specs.Sequential.{sequential};
 ghost use Rattle.commit_board.specs.Board.{Fits, IsBoard, after_claim, claim_of, front, keep_of, settle_of};
-ghost use Rattle.spec_run.specs.Bench.{after_offer, after_push, counted_again, drained, is_offered, pushed_of, settled, with_front_committed};
-ghost use Rattle.spec_run.specs.Told.{ClaimTells, KeepTells, PushTells};
+ghost use Rattle.spec_run.specs.Bench.{after_foreign, after_offer, after_push, counted_again, drained, foreign_of, is_offered, pushed_of, settled, with_front_committed};
+ghost use Rattle.spec_run.specs.Told.{ClaimTells, ForeignTells, KeepTells, PushTells};
 
-use commit_board::{Board, Claim, Keep, Settle};
+use commit_board::{Board, Claim, Keep, OfferFault, Settle};
 use event_retrieve::{LevelPlan, Offer};
 use mp_base::Entry;
 use shared_grid::{Naming, Reader, SharedGrid, Site, Writer};
@@ -33,6 +33,15 @@ impl<N: Naming, T: Site> Model for Bench<N, T> {
     ghost view = { λ b. b.board };
 
     ghost invariant = { λ b. IsBench N.plan N.window N.story b.board b.writer };
+}
+
+/// What an offer of a stranger is answered.
+#[derive(Drop)]
+pub enum Foreign {
+    /// It isn't of the front, or it isn't sound. Nothing is kept.
+    Refused(OfferFault),
+    /// What the same offer of a worker is answered.
+    Taken(Keep),
 }
 
 /// What pushing the front is answered.
@@ -101,6 +110,34 @@ impl<N: Naming, T: Site> Bench<N, T> {
         self.drain(plan, grid, store);
         self.show_to(grid, pass);
         keep
+    }
+
+    /// Vets an offer, whoever made it. One of the front that is sound is then treated as an offer of
+    /// a worker; any other is refused, and leaves the board as it was.
+    pub fn offer_foreign<S: CountStore>(
+        &mut self,
+        plan: &LevelPlan<'_>,
+        grid: &SharedGrid<N, T>,
+        pass: &mut Reader<N, T>,
+        store: &S,
+        offer: Offer,
+    ) -> Foreign
+        requires plan { plan.now ≡ N.plan }
+        requires store { StandsFor S.gives S.reaches store.now plan.now.source }
+        ensures answer { result ≡ foreign_of plan.now self.old offer }
+        ensures board { self.new ≡ after_foreign plan.now self.old offer }
+        ensures later { pass.old ≤ pass.new }
+        ensures seen { front self.new ≤ pass.new }
+        ensures tells { ForeignTells plan.now offer pass.new result }
+    {
+        let _ = self.board.log().len();
+        match self.board.vet(plan, store, &offer) {
+            Err(fault) => {
+                self.show_to(grid, pass);
+                Foreign::Refused(fault)
+            }
+            Ok(()) => Foreign::Taken(self.offer_and_drain(plan, grid, pass, store, offer)),
+        }
     }
 
     /// Commits the front's node and shows it: by its kept offer where that isn't stale, and else by

@@ -4,6 +4,8 @@
 #![tactic(auto)]
 
 mod bench;
+#[cfg(test)]
+mod call_tests;
 mod runner;
 mod shared;
 mod sim;
@@ -12,7 +14,7 @@ mod speculation;
 mod tests;
 mod workers;
 
-pub use bench::{Bench, Pushed};
+pub use bench::{Bench, Foreign, Pushed};
 pub use runner::Workers;
 pub use sim::{Helper, Sim};
 pub use speculation::Spec;

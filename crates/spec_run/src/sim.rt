@@ -6,9 +6,9 @@ ghost use Rattle.ti_scan.specs.Event.{StandsFor};
 ghost use Rattle.event_retrieve.specs.Offer.{IsSound};
 ghost use Rattle.event_retrieve.specs.Plan.{nodes_in};
 ghost use Rattle.event_retrieve.specs.Sequential.{sequential};
-ghost use Rattle.spec_run.specs.Told.{ClaimTells, KeepTells, PushTells, SpecTells};
+ghost use Rattle.spec_run.specs.Told.{ClaimTells, ForeignTells, KeepTells, PushTells, SpecTells};
 
-use crate::bench::{Bench, Pushed};
+use crate::bench::{Bench, Foreign, Pushed};
 use crate::speculation::{Spec, gather_event};
 use commit_board::{Board, Claim, Keep, Ticket};
 use event_retrieve::{LevelPlan, Offer, Surroundings};
@@ -138,6 +138,24 @@ impl<'a, N: Naming, T: Site> Sim<'a, N, T> {
         self.bench
             .lock(rt)
             .offer_and_drain(self.plan, &self.grid, pass, store, offer)
+    }
+
+    /// Takes an offer of the front that is sound, whoever made it, and refuses any other. The pass has
+    /// afterwards seen the front by which it was judged.
+    pub fn offer_foreign<S: CountStore, R: Wait>(
+        &self,
+        rt: &R,
+        pass: &mut Reader<N, T>,
+        store: &S,
+        offer: Offer,
+    ) -> Foreign
+        requires store { StandsFor S.gives S.reaches store.now self.now.source }
+        ensures later { pass.old ≤ pass.new }
+        ensures tells { ForeignTells self.now offer pass.new result }
+    {
+        self.bench
+            .lock(rt)
+            .offer_foreign(self.plan, &self.grid, pass, store, offer)
     }
 
     /// Commits the front's node and shows it, unless the path is at its end.

@@ -1,5 +1,5 @@
 // Workers over small levels.
-ghost use Rattle.std.specs.Prelude.{◌≡◌, ◌<◌, All, IfOk};
+ghost use Rattle.std.specs.Prelude.{◌≡◌, ◌<◌, ◌≤◌, All, IfOk};
 ghost use Rattle.std.specs.Thread.{IsSync};
 ghost use Rattle.mp_base.specs.declared.cell.Entry.{Entry as EntryOf};
 ghost use Rattle.mp_base.specs.Grid.{IsBelow};
@@ -29,7 +29,7 @@ use worker_gate::{Gate, HoldGate, OpenGate, Place};
 const TURNS: u32 = 1_000_000_000;
 
 // Unknown cells.
-fn blank(alloc: Global, shape: Shape) -> Result<Grid, NoMemory>
+pub(crate) fn blank(alloc: Global, shape: Shape) -> Result<Grid, NoMemory>
     ensures sides { IfOk result (λ g. g.sides ≡ shape) }
     ensures below { IfOk result (λ g. All (IsBelow 2) g.cells) }
     ensures nodes { IfOk result (λ g. KnowsNodes g 1) }
@@ -37,27 +37,34 @@ fn blank(alloc: Global, shape: Shape) -> Result<Grid, NoMemory>
     Grid::unknown(alloc, shape)
 }
 
-// An image of one row: the first cells are of category 0, and the others of category 1.
-fn row(alloc: Global, zeros: u32) -> Result<Grid, Fail>
+// An image of one row, of two categories.
+pub(crate) fn row(alloc: Global, cats: &[u8; 6]) -> Result<Grid, Fail>
+    requires below { All (λ k. k < 2) cats.now }
     ensures { IfOk result (λ g. All (IsBelow 2) g.cells) }
 {
     let mut image = blank(alloc, Shape::new(6, 1, 1)?)?;
     for number in 0..6 {
-        let cat = Cat(u8::from(number >= zeros));
-        image.set(CellId(number), Some(cat));
+        image.set(CellId(number as u32), Some(Cat(cats[number])));
     }
     Ok(image)
 }
 
 // A plan over unknown cells.
-fn plan_of<'a>(alloc: Global, eroded: &'a Eroded<'a>, start: Grid) -> Result<LevelPlan<'a>, Fail>
+pub(crate) fn plan_of<'a>(
+    alloc: Global,
+    eroded: &'a Eroded<'a>,
+    start: Grid,
+    seed: u64,
+    servo: u16,
+) -> Result<LevelPlan<'a>, Fail>
+    requires servo { servo ≤ 999 }
     requires cats { eroded.now.cats ≡ 2 }
     requires nodes { KnowsNodes start 1 }
     requires below { All (IsBelow 2) start.cells }
 {
     let target = Target::new(Counts::of(&[3, 3]));
-    let words = Words::new(7, 0);
-    Ok(LevelPlan::new(alloc, 1, eroded, start, words, target, 300, 1, 64)?)
+    let words = Words::new(seed, 0);
+    Ok(LevelPlan::new(alloc, 1, eroded, start, words, target, servo, 1, 64)?)
 }
 
 // The log by so many workers, which pass this gate.
@@ -101,11 +108,11 @@ fn run_by_runner<R: Threads + Wait + Sync>(
 
 #[test]
 fn workers_give_the_sequential_log(rt: HostRuntime) -> Result<(), Fail> {
-    let image = row(rt.alloc(), 3)?;
+    let image = row(rt.alloc(), &[0, 0, 0, 1, 1, 1])?;
     let template = Template::new(rt.alloc(), [1, 0, 0], 2)?;
     let eroded = Eroded::new(rt.alloc(), &image, &template, 2)?;
     let start = blank(rt.alloc(), Shape::new(20, 10, 1)?)?;
-    let plan = plan_of(rt.alloc(), &eroded, start)?;
+    let plan = plan_of(rt.alloc(), &eroded, start, 7, 300)?;
     let one = run_alone(rt.alloc(), &plan)?;
     let log = one.as_slice();
     assert_eq!(rt; log.len(), 200);
@@ -170,11 +177,11 @@ impl Gate for MeetingGate {
 
 #[test]
 fn two_workers_meet(rt: HostRuntime) -> Result<(), Fail> {
-    let image = row(rt.alloc(), 0)?;
+    let image = row(rt.alloc(), &[1; 6])?;
     let template = Template::new(rt.alloc(), [1, 0, 0], 2)?;
     let eroded = Eroded::new(rt.alloc(), &image, &template, 2)?;
     let start = blank(rt.alloc(), Shape::new(100, 100, 1)?)?;
-    let plan = plan_of(rt.alloc(), &eroded, start)?;
+    let plan = plan_of(rt.alloc(), &eroded, start, 7, 300)?;
     let held = HoldGate::new(TURNS);
     let log = run_gated(&rt, rt.alloc(), &plan, &held, 2, 64)?;
     assert!(rt; held.met());
