@@ -1,4 +1,5 @@
 pub mod Fronts
 pub mod Through
+pub mod PutTexts
 pub mod Written
 pub mod Outcomes
