@@ -1,6 +1,7 @@
 -- Rows by how they are held: which one stands where, and one row more.
-use Rattle.std.proofs.Common.{◌≡◌, ℕ, ◌+◌, ◌-◌, ◌^◌, ◌<◌, ◌≤◌, List, [], ◌∷◌, ◌++◌, length, map, get_or, Some, None, ap, sym, ◌∙◌, subst, arith, append_assoc, length-append}
-use Rattle.std.specs.Prelude.{slice_get, option_and_then}
+use Rattle.std.proofs.Common.{◌≡◌, ℕ, ℤ, false, ◌||◌, refl, Option, ◌+◌, ◌-◌, ◌^◌, ◌<◌, ◌≤◌, List, [], ◌∷◌, ◌++◌, length, map, get_or, Some, None, ap, sym, ◌∙◌, subst, arith, append_assoc, length-append}
+use Rattle.std.specs.Prelude.{slice_get, option_and_then, is_some}
+use Rattle.std.proofs.lemmas.Bool.{false≢true}
 use Rattle.std.proofs.lemmas.List.{append-nil, length-map, length_push, map-append, get_or-map, get_or_append_left, get_or-append_right}
 use Rattle.std.proofs.lemmas.List.Elements.{All-push}
 use Rattle.std.proofs.lemmas.Option.{slice_get_past, slice_get_read, slice_get_within, slice_get-get_or, get_or_from_slice_get}
@@ -8,7 +9,7 @@ use Rattle.mp_base.specs.Grid.{IsBelow}
 use Rattle.gslib_grid.specs.declared.row.Row.{Row}
 use Rattle.gslib_grid.specs.declared.held.BareRow.{BareRow}
 use Rattle.gslib_grid.specs.declared.held.PointRow.{PointRow}
-use Rattle.gslib_grid.specs.Held.{bare_row, point_row, rows_held}
+use Rattle.gslib_grid.specs.Held.{bare_row, has_coordinate, point_row, rows_held}
 use Rattle.gslib_grid.specs.Rows.{AreRows}
 
 -- a row that is there has a category at most 7, or none
@@ -25,6 +26,16 @@ category_at rows number inside =
 -- one row more
 pub rows_push : (rows : List Row) (row : Row) → AreRows rows → length rows < 2 ^ 28 → IsBelow 8 row.cat → AreRows (rows ++ row ∷ [])
 rows_push rows row are few below = record { few = omega (arith, length_push rows row); cats = All-push (λ (r : Row). IsBelow 8 r.cat) rows row are.cats below }
+
+-- a row without coordinates, by what is held of it
+bare_parts : (line : ℕ) (x y z : Option ℤ) (cat : Option ℕ) → (is_some x || is_some y || is_some z) ≡ false → bare_row (record { line = line; cat = cat }) ≡ record { line = line; x = x; y = y; z = z; cat = cat }
+bare_parts line None None None cat none = refl
+bare_parts line None None (Some z) cat none = absurd (false≢true (sym none))
+bare_parts line None (Some y) z cat none = absurd (false≢true (sym none))
+bare_parts line (Some x) y z cat none = absurd (false≢true (sym none))
+
+pub bare_of : (row : Row) → has_coordinate row ≡ false → bare_row (record { line = row.line; cat = row.cat }) ≡ row
+bare_of row none = bare_parts row.line row.x row.y row.z row.cat none
 
 module _ (bare : List BareRow) (points : List PointRow) where
   length-held : length (rows_held bare points) ≡ length bare + length points

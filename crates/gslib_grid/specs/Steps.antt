@@ -1,8 +1,9 @@
 -- A table as the program takes it, line by line.
-use Rattle.std.specs.Prelude.{ℕ, ◌+◌, ◌^◌, ◌≤◌, List, [], ◌∷◌, ◌++◌, length, All, Result}
+use Rattle.std.specs.Prelude.{ℕ, ◌+◌, ◌^◌, ◌≤◌, Bool, ◌&&◌, ◌==◌, ℤ, List, [], ◌∷◌, ◌++◌, length, All, None, Result}
 use Rattle.mp_base.specs.Grid.{IsBelow}
 use Rattle.mp_base.specs.declared.codes.Codes.{Codes}
 use Rattle.gslib_grid.specs.declared.want.Wanted.{Wanted}
+use Rattle.gslib_grid.specs.declared.number.Numbers.{Numbers}
 use Rattle.gslib_grid.specs.declared.fault.TableFault.{TableFault}
 use Rattle.gslib_grid.specs.Table.{Front, Added, Nothing, Count, OneRow, judged, result_map}
 
@@ -23,3 +24,11 @@ pub record IsFront (front : Front) : Type 0 where
   pub bytes : front.bytes ≤ 2 ^ 28
   pub variables : front.variables ≤ 64
   pub cats : All (λ row. IsBelow 8 row.cat) front.rows
+
+-- the first column alone is read, as the category
+abbrev pub is_first_alone : Wanted → Bool
+is_first_alone wanted = (wanted.x == 0 && wanted.y == 0) && (wanted.z == 0 && wanted.category == 1)
+
+-- the numbers of a row where the category's code alone is read
+abbrev pub code_alone : ℤ → Numbers
+code_alone code = record { x = None; y = None; z = None; code = code }

@@ -1,9 +1,9 @@
 // How the rows of a table are held: without coordinates in 8 bytes, and with them in 40.
-ghost use Rattle.std.specs.Prelude.{◌≡◌, false};
+ghost use Rattle.std.specs.Prelude.{◌≡◌, ◌++◌, ◌∷◌, [], OnOk, OnErr};
 ghost use Rattle.gslib_grid.specs.Held.{bare_row, coordinate, has_coordinate as is_point, point_row};
 
 use crate::row::Row;
-use mp_base::Cat;
+use mp_base::{Cat, NoMemory};
 
 /// A row without coordinates.
 #[derive(Clone, Copy)]
@@ -37,16 +37,16 @@ pub fn has_coordinate(row: &Row) -> bool
     row.x.is_some() || row.y.is_some() || row.z.is_some()
 }
 
-impl BareRow {
-    /// A row that has no coordinate.
-    pub fn of(row: &Row) -> BareRow
-        requires { is_point row.now ≡ false }
-        ensures { bare_row result ≡ row.now }
-    {
-        let Row { line, cat, .. } = *row;
-        BareRow { line, cat }
-    }
+/// Appends a row without coordinates. After an error all is as it was.
+pub fn push_bare(rows: &mut Vec<BareRow>, line: u32, cat: Option<Cat>) -> Result<(), NoMemory>
+    ensures ok { OnOk result (rows.new.items ≡ rows.old.items ++ (record { line = line; cat = cat }) ∷ []) }
+    ensures err { OnErr result (rows.new.items ≡ rows.old.items) }
+{
+    rows.push(BareRow { line, cat })?;
+    Ok(())
+}
 
+impl BareRow {
     /// The row.
     pub fn row(&self) -> Row
         ensures { result ≡ bare_row self.now }

@@ -1,5 +1,5 @@
 // The numbers of a row, and the number of variables.
-ghost use Rattle.std.specs.Prelude.{◌≡◌, ◌≤◌, ◌<◌, IfSome, length};
+ghost use Rattle.std.specs.Prelude.{◌≡◌, ◌≤◌, ◌<◌, ◌∷◌, [], IfSome, Some, length, pos};
 ghost use Rattle.std.specs.List.{position};
 ghost use Rattle.std.specs.Ordering.{int_eq};
 ghost use Rattle.mp_text.specs.Fields.{fields_of};
@@ -28,6 +28,19 @@ pub struct Numbers {
 
 impl Numbers {
     ghost use Rattle.gslib_grid.specs.Table.{numbers_in};
+    ghost use Rattle.gslib_grid.specs.Steps.{code_alone};
+
+    /// The numbers of a row of which the category's code alone is read.
+    pub fn of_code(code: i32) -> Numbers
+        ensures { result ≡ code_alone code }
+    {
+        Numbers {
+            x: None,
+            y: None,
+            z: None,
+            code,
+        }
+    }
 
     /// The wanted numbers of a row, or nothing where a wanted field isn't a number of its kind.
     #[tactic(auto, unfolding(crate::specs::Table::numbers_in))]
@@ -70,13 +83,24 @@ pub fn code(text: &[u8], column: u16) -> Option<i32>
 fn whole(field: &[u8]) -> Option<i32>
     ensures { result ≡ result_ok (whole_of field.now) }
 {
-    if field.len() == 1 && field[0].is_ascii_digit() {
-        return Some(i32::from(field[0] - b'0'));
+    if let Some(digit) = lone_digit(field) {
+        return Some(i32::from(digit));
     }
     match read_whole(field) {
         Ok(value) => Some(value),
         Err(_) => None,
     }
+}
+
+/// The number of a text that is one digit, which is its only field.
+pub fn lone_digit(text: &[u8]) -> Option<u8>
+    ensures value { IfSome result (λ digit. result_ok (whole_of text.now) ≡ Some (pos digit)) }
+    ensures field { IfSome result (λ _. fields_of text.now ≡ text.now ∷ []) }
+{
+    if text.len() == 1 && text[0].is_ascii_digit() {
+        return Some(text[0] - b'0');
+    }
+    None
 }
 
 /// The category of a code, which is nothing for the missing code; or nothing where the code is neither
@@ -93,12 +117,32 @@ pub fn category(codes: &Codes, code: i32) -> Option<Option<Cat>>
     }
 }
 
-// The place of a code in a list.
+// The place of a code in a list. All of it is looked at: where codes follow each other at random, a way out
+// of the loop that is guessed wrong costs more than the rest of at most eight codes.
 fn place_of(codes: &[i32], code: i32) -> Option<usize>
     ensures place { result ≡ position (int_eq code) codes.now }
     ensures within { IfSome result (λ place. place < length codes.now) }
 {
-    codes.iter().position(|listed| code == *listed)
+    let mut place = codes.len();
+    let mut at = codes.len();
+    while at > 0 {
+        at -= 1;
+        if is_same(code, &codes[at]) {
+            place = at;
+        }
+    }
+    if place < codes.len() {
+        Some(place)
+    } else {
+        None
+    }
+}
+
+// Whether a code is a listed one.
+fn is_same(code: i32, listed: &i32) -> bool
+    ensures { result ≡ int_eq code listed.now }
+{
+    code == *listed
 }
 
 // Whether a code is the missing one.

@@ -5,7 +5,7 @@ ghost use Rattle.mp_base.specs.Grid.{IsBelow};
 ghost use Rattle.gslib_grid.specs.Table.{checked_count, checked_numbers, count_in, has_columns};
 
 use crate::fault::{TableError, TableFault};
-use crate::number::{Numbers, category, variables};
+use crate::number::{Numbers, category, lone_digit, variables};
 use crate::row::{Row, Rows, Table};
 use crate::want::Wanted;
 use mp_base::Codes;
@@ -156,6 +156,13 @@ impl Progress {
         let line = self.lines + 1;
         if wanted.most as usize <= self.rows.len() {
             return Err(TableFault::TooManyRows { line });
+        }
+        // Most images are one column of digits.
+        if self.variables <= 1
+            && wanted.is_first_alone()
+            && let Some(digit) = lone_digit(text)
+        {
+            return row_of(codes, line, Some(Numbers::of_code(i32::from(digit))));
         }
         if !has_fields(text, self.variables as usize) {
             return Err(TableFault::ShortRow { line });

@@ -2,7 +2,7 @@
 ghost use Rattle.std.specs.Prelude.{◌≡◌, ◌<◌, ◌^◌, [], ◌∷◌, ◌++◌, length, slice_get, option_and_then, IfOk, IfSome, OnOk, OnErr};
 ghost use Rattle.mp_base.specs.Grid.{IsBelow};
 
-use crate::held::{BareRow, PointRow, has_coordinate};
+use crate::held::{BareRow, PointRow, has_coordinate, push_bare};
 use mp_base::{Cat, NoMemory};
 use std::alloc::Global;
 use std::marker::Model;
@@ -101,8 +101,7 @@ impl Rows {
         ensures err { OnErr result (self.new ≡ self.old) }
     {
         if self.points.is_empty() && !has_coordinate(&row) {
-            self.bare
-                .extend_from_slice(slice::from_ref(&BareRow::of(&row)))?;
+            push_bare(&mut self.bare, row.line, row.cat)?;
             return Ok(());
         }
         self.points

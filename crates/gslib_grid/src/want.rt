@@ -27,6 +27,7 @@ pub struct Wanted {
 
 impl Wanted {
     ghost use Rattle.gslib_grid.specs.Table.{wanted_of};
+    ghost use Rattle.gslib_grid.specs.Steps.{is_first_alone};
 
     /// The columns and numbers of rows that are asked for.
     pub fn of(want: &Want) -> Wanted
@@ -50,5 +51,12 @@ impl Wanted {
                 most: MOST_POINTS,
             },
         }
+    }
+
+    /// Whether the first column alone is read, as the category.
+    pub fn is_first_alone(&self) -> bool
+        ensures { result ≡ is_first_alone self.now }
+    {
+        self.x == 0 && self.y == 0 && self.z == 0 && self.category == 1
     }
 }

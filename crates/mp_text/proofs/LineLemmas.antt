@@ -1,7 +1,8 @@
 -- Lines, cut off one by one from the front.
-use Rattle.std.proofs.Common.{◌≡◌, ℕ, zero, suc, ◌+◌, ◌<◌, true, false, cond, eqb, List, [], ◌∷◌, length, take, drop, get_or, Option, Some, None, unwrap_or, refl, ap, sym, ◌∙◌, arith, add-one}
+use Rattle.std.proofs.Common.{◌≡◌, ◌≢◌, ℕ, zero, suc, ◌+◌, ◌<◌, true, false, cond, eqb, List, [], ◌∷◌, length, take, drop, get_or, Option, Some, None, unwrap_or, refl, ap, sym, ◌∙◌, arith, add-one}
 use Rattle.std.specs.Prelude.{◌==◌, option_map}
 use Rattle.std.specs.List.{onto_first, position}
+use Rattle.std.proofs.lemmas.Bool.{eq-eqb, ne_eqb}
 use Rattle.std.proofs.lemmas.List.{take_all, drop_all}
 use Rattle.std.proofs.lemmas.List.Quantifiers.{position-Some}
 use Rattle.mp_text.specs.Lines.{lines_of}
@@ -15,6 +16,11 @@ lines_of_cut (b ∷ bs) zero within feed none = ap (λ t. cond t ((b ∷ []) ∷
 lines_of_cut (b ∷ bs) (suc n) within feed none =
     ap (λ t. cond t ((b ∷ []) ∷ lines_of bs) (onto_first b (lines_of bs))) (none 0 (omega arith))
     ∙ ap (onto_first b) (lines_of_cut bs n (omega arith) feed (λ k below. none (suc k) (omega arith)))
+
+-- a first line of one byte
+pub lines_of_one_byte : (bs : List ℕ) → 1 < length bs → get_or bs 0 0 ≢ 10 → get_or bs 1 0 ≡ 10 → lines_of bs ≡ take 2 bs ∷ lines_of (drop 2 bs)
+lines_of_one_byte bs within other feed =
+    lines_of_cut bs 1 within (eq-eqb (get_or bs 1 0) 10 feed) (λ k below. ne_eqb (get_or bs k 0) 10 (λ is. other (ap (λ i. get_or bs i 0) (omega arith) ∙ is)))
 
 -- bytes without a line feed are one line
 pub lines_of_rest : (bs : List ℕ) → 0 < length bs → ((k : ℕ) → k < length bs → eqb (get_or bs k 0) 10 ≡ false) → lines_of bs ≡ bs ∷ []

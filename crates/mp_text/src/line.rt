@@ -16,6 +16,10 @@ pub fn next_line(bytes: &[u8]) -> Option<(&[u8], &[u8])>
     if bytes.is_empty() {
         return None;
     }
+    // Most lines of an image are one digit, which needs no search.
+    if bytes.len() > 1 && bytes[0] != b'\n' && bytes[1] == b'\n' {
+        return Some(bytes.split_at(2));
+    }
     let end = line_end(bytes).unwrap_or(bytes.len());
     Some(bytes.split_at(end))
 }
