@@ -33,11 +33,6 @@ fault_of name NoMemory = OutOfMemory
 abbrev pub IsReadOf : Option (List ℕ) → ℕ → Vec ℕ Global → Type 0
 IsReadOf content limit got = IsSomeAnd content (λ bytes. IsReadUpTo limit bytes got.items)
 
--- the text was added behind a front, or a part of it
-abbrev pub IsAdded : {A : Type 0} → List ℕ → Option (List ℕ) → List ℕ → Result A Fault → Type 0
-IsAdded front now text (Ok _) = now ≡ Some (front ++ text)
-IsAdded front now text (Err _) = (count : ℕ) × (now ≡ Some (front ++ take count text))
-
 -- the text is held, or a front of it
 abbrev pub IsFilled : {A : Type 0} → Option (List ℕ) → List ℕ → Result A Fault → Type 0
 IsFilled now text (Ok _) = now ≡ Some text
@@ -54,9 +49,6 @@ IsReported before now text (Ok _) = now ≡ before ++ text
 IsReported before now text (Err _) = (count : ℕ) × (now ≡ before ++ take count text)
 
 -- The same of a file among others, where they tell what they hold.
-
-abbrev pub Added : {A : Type 0} → List ℕ → List ℕ → FilesSeen → FilesSeen → Result A Fault → Type 0
-Added name text before now result = (front : List ℕ) → IsTrue before.tells → before.held name ≡ Some front → IsAdded front (now.held name) text result
 
 abbrev pub Filled : {A : Type 0} → List ℕ → List ℕ → FilesSeen → FilesSeen → Result A Fault → Type 0
 Filled name text before now result = IsTrue before.tells → IsFilled (now.held name) text result

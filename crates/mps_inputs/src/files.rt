@@ -1,7 +1,7 @@
 // The files that a command reads and writes, and its text for `out`.
-ghost use Rattle.std.specs.Prelude.{◌≡◌, ◌≤◌, ◌^◌, [], length, IfErr, IfOk, IsSome, IsTrue};
+ghost use Rattle.std.specs.Prelude.{◌≡◌, ◌≤◌, ◌^◌, [], length, IfErr, IfOk, IsTrue};
 ghost use Rattle.mp_outside.specs.Seen.{OnlyReads, OnlyWrites};
-ghost use Rattle.mps_inputs.specs.Files.{Added, IsReadFault, IsReadOf, IsReportFault, IsWriteFault, Reported, Written, fault_of};
+ghost use Rattle.mps_inputs.specs.Files.{IsReadFault, IsReadOf, IsReportFault, IsWriteFault, Reported, Written, fault_of};
 
 use crate::fault::{Fault, Name};
 use mp_outside::{Files, OutFault, Sink, read_to_limit};
@@ -42,21 +42,8 @@ pub fn create_output<F: Files>(files: &mut F, name: &str) -> Result<(), Fault>
     }
 }
 
-/// Appends a text to the output file in one piece.
-pub fn append_output<F: Files>(files: &mut F, name: &str, text: &[u8]) -> Result<(), Fault>
-    requires short { length name.now ≤ 255 }
-    requires made { IsTrue (F.seen files.old).tells → IsSome ((F.seen files.old).held name.now) }
-    ensures added { Added name.now text.now (F.seen files.old) (F.seen files.new) result }
-    ensures cause { IfErr result (IsWriteFault name.now (F.seen files.old) (F.seen files.new)) }
-    ensures only { OnlyWrites name.now (F.seen files.old) (F.seen files.new) }
-{
-    match files.append(name, text) {
-        Ok(()) => Ok(()),
-        Err(fault) => Err(write_fault(name, fault)),
-    }
-}
-
-fn write_fault(name: &str, fault: OutFault) -> Fault
+/// Why the output file couldn't be written.
+pub fn write_fault(name: &str, fault: OutFault) -> Fault
     requires { length name.now ≤ 255 }
     ensures { result ≡ fault_of name.now fault }
 {

@@ -15,7 +15,7 @@ mod stores;
 mod tables;
 
 pub use fault::{Fault, Name, ScheduleFault};
-pub use files::{append_output, create_output, read_file, report};
+pub use files::{create_output, read_file, report, write_fault};
 pub use inputs::{Inputs, codes_of, read_inputs, read_parameters, read_tables};
 pub use judging::{Judged, judge};
 pub use line::fault_line;

@@ -6,7 +6,7 @@ ghost use Rattle.realisation_out.specs.Pieces.{HasPut};
 ghost use Rattle.realisation_out.specs.Text.{rows_text};
 ghost use Rattle.seq_engine.specs.Realisation.{realised};
 ghost use Rattle.seq_engine.specs.Setup.{IsSetup};
-ghost use Rattle.mps_inputs.specs.Files.{Filled, IsWriteFault, Written, fault_of};
+ghost use Rattle.mps_inputs.specs.Files.{Filled, IsWriteFault, Written};
 ghost use Rattle.mps_inputs.specs.Inputs.{codes_in};
 ghost use Rattle.mps_run.specs.Putting.{IsOpen, IsPutOrFront, IsWholeOrFront};
 ghost use Rattle.mps_run.specs.Texts.{counts_of, file_text, realisation_counts, run_file};
@@ -15,7 +15,7 @@ use crate::putting::{put_opening, put_rows};
 use mp_base::{Codes, Counts};
 use mp_outside::{Files, OutFault};
 use mp_params::Params;
-use mps_inputs::{Fault, Name, create_output};
+use mps_inputs::{Fault, create_output, write_fault};
 use realisation_out::Pieces;
 use seq_engine::{LevelRunner, Setup, run_realisation};
 use std::alloc::Global;
@@ -70,19 +70,6 @@ fn fill_output<R: LevelRunner, F: Files>(
     match put_file(alloc, files, name, parameters, codes, setup, runner) {
         Ok(counts) => Ok(counts),
         Err(fault) => Err(write_fault(name, fault)),
-    }
-}
-
-// Why the output file couldn't be written.
-fn write_fault(name: &str, fault: OutFault) -> Fault
-    requires { length name.now ≤ 255 }
-    ensures { result ≡ fault_of name.now fault }
-{
-    match fault {
-        OutFault::Failed => Fault::CannotWrite {
-            name: Name::new(name),
-        },
-        OutFault::NoMemory => Fault::OutOfMemory,
     }
 }
 
