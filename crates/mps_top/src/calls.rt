@@ -5,6 +5,7 @@ ghost use Rattle.mp_outside.specs.Seen.{ReadFailed, SinkFailed, WriteFailed};
 ghost use Rattle.mps_inputs.specs.Answers.{Ends, IsAnswer, IsDone, IsTold, IsUsage, Serves, seen};
 ghost use Rattle.mps_inputs.specs.Inputs.{IsInputs};
 ghost use Rattle.mps_inputs.specs.Status.{status_of, status_of_fault};
+ghost use Rattle.mps_inputs.specs.Stores.{kind_of};
 ghost use Rattle.mps_run.specs.Outcome.{run_of};
 ghost use Rattle.mps_words.specs.Words.{IsInRange, command_of as command_of_words, names_a_command, texts};
 ghost use Rattle.mps_top.specs.Outcome.{outcome_for, outcome_of, run_outcome};
@@ -12,6 +13,7 @@ ghost use Rattle.mps_top.specs.Outcome.{outcome_for, outcome_of, run_outcome};
 use crate::beside::run_beside;
 use crate::check::check;
 use mp_outside::{Files, NoFaultFiles, NoFaultSink, Sink};
+use mp_params::Params;
 use mps_demo::demo;
 use mps_inputs::{
     Fault, Inputs, Name, fault_line, fault_status, judge, kind_for, read_inputs, status,
@@ -215,8 +217,20 @@ fn run_inputs<R: Threads + Sync, F: Files, O: Sink>(
     ensures { Ends (run_of inputs) (seen (F.seen files.old) (O.seen out.old)) (seen (F.seen files.new) (O.seen out.new)) result }
 {
     let judged = judge(alloc, inputs)?;
-    let mut runner = OneThread::new(rt, kind_for(&judged.parameters));
+    let mut runner = runner_for(rt, &judged.parameters);
     write_run(alloc, files, out, judged, &mut runner)
+}
+
+// What runs the levels on one thread. Of one realisation no store is wanted twice.
+fn runner_for<'a, R: Threads + Sync>(rt: &'a R, parameters: &Params) -> OneThread<'a, R>
+    ensures { result ≡ kind_of parameters.now.store }
+{
+    let kind = kind_for(parameters);
+    if parameters.realisations == 1 {
+        OneThread::for_one_realisation(rt, kind)
+    } else {
+        OneThread::new(rt, kind)
+    }
 }
 
 /// Tells a fault that came before any command could be served, and answers its status.

@@ -55,6 +55,16 @@ impl<'a, R: Threads + Sync> OneThread<'a, R> {
             stores: Stores::new(kind),
         }
     }
+
+    /// The same for one realisation: it keeps no store beyond its level.
+    pub fn for_one_realisation(rt: &'a R, kind: StoreKind) -> OneThread<'a, R>
+        ensures { result ≡ kind }
+    {
+        OneThread {
+            rt,
+            stores: Stores::for_one_realisation(kind),
+        }
+    }
 }
 
 impl<'a, R: Threads + Sync> LevelRunner for OneThread<'a, R> {

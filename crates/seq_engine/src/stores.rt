@@ -71,6 +71,8 @@ impl<'a> CountStore for Store<'a> {
 #[derive(Drop)]
 pub struct Stores {
     kind: StoreKind,
+    // Whether a store is kept once its level was run.
+    keeps: bool,
     // The stores that were built, for further realisations: there are none before the first.
     kept: Option<KeptStores>,
 }
@@ -84,11 +86,27 @@ impl Model for Stores {
 }
 
 impl Stores {
-    /// Stores of this kind, of which none is built yet.
+    /// Stores of this kind, of which none is built yet. Each is kept for further realisations.
     pub fn new(kind: StoreKind) -> Stores
         ensures { result ≡ kind }
     {
-        Stores { kind, kept: None }
+        Stores {
+            kind,
+            keeps: true,
+            kept: None,
+        }
+    }
+
+    /// The same for one realisation, in which each level has a store of its own: it is let go with its
+    /// level, so that no two stand in memory.
+    pub fn for_one_realisation(kind: StoreKind) -> Stores
+        ensures { result ≡ kind }
+    {
+        Stores {
+            kind,
+            keeps: false,
+            kept: None,
+        }
     }
 
     /// Builds the stores of all levels of a setup side by side, at most so many at once, for the levels
@@ -144,7 +162,9 @@ impl Stores {
             Some(kind) => {
                 let mut kept = self.take_kept(alloc);
                 let log = run_built(rt, alloc, plan, kind, &mut kept, simulate);
-                self.kept = Some(kept);
+                if self.keeps {
+                    self.kept = Some(kept);
+                }
                 log
             }
         }
