@@ -1,5 +1,5 @@
 #!/bin/bash
-# A SLURM job array over the jobs 001 to 100 that `make` wrote in the folder of the submission.
+# A SLURM job array over the jobs that `make` wrote in the folder of the submission, here a hundred of them.
 #SBATCH --job-name=mpsim
 #SBATCH --array=1-100
 #SBATCH --cpus-per-task=1
@@ -9,4 +9,6 @@
 #SBATCH --requeue
 # MPSIM, the program, and MANY, this folder, stand in the environment of the submission.
 cd "$SLURM_SUBMIT_DIR" || exit 1
-exec "$MANY/run" "$MPSIM" "runs/$(printf %03d "$SLURM_ARRAY_TASK_ID")"
+jobs=(runs/*.par)
+job=${jobs[SLURM_ARRAY_TASK_ID - 1]}
+exec "$MANY/run" "$MPSIM" "${job%.par}"
