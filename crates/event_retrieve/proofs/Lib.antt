@@ -13,4 +13,3 @@ pub mod Fresh
 pub mod Between
 pub mod Gathered
 pub mod Below
-pub mod WantedCells

@@ -1,6 +1,5 @@
 -- Gathering the event of a path node, one template position after another.
-use Rattle.std.specs.Prelude.{◌≡◌, ℕ, ◌+◌, ◌-◌, nat_lt, Bool, false, ◌||◌, if◌then◌else◌, List, ◌++◌, length, map, option_and_then, option_to_list, Option, Some, None, is_some}
-use Rattle.std.specs.List.{range_with_len}
+use Rattle.std.specs.Prelude.{◌≡◌, ℕ, ◌+◌, ◌-◌, nat_lt, Bool, false, ◌||◌, if◌then◌else◌, List, ◌++◌, length, option_to_list, Option, Some, None, is_some}
 use Rattle.std.specs.Option.{option_map_or}
 use Rattle.mp_base.specs.Grid.{cat_of}
 use Rattle.path_stream.specs.Ranks.{rank_in}
@@ -8,8 +7,7 @@ use Rattle.ti_scan.specs.declared.event.Datum.{Datum}
 use Rattle.ti_scan.specs.Event.{IsWithin}
 use Rattle.event_retrieve.specs.declared.gather.Wanted.{Wanted}
 use Rattle.event_retrieve.specs.declared.gather.Wanted.TheVariants.{Done, Outside, Later, Cell}
-use Rattle.event_retrieve.specs.Around.{Centre}
-use Rattle.event_retrieve.specs.Plan.{Plan, cell_at_position, cell_of, datum_at, grid_at, known}
+use Rattle.event_retrieve.specs.Plan.{Plan, cell_at_position, datum_at, grid_at, known}
 use Rattle.event_retrieve.specs.Retrieval.{up_to}
 use Rattle.event_retrieve.specs.Sequential.{sequential}
 use Rattle.event_retrieve.specs.Offer.{event_of_turn}
@@ -33,18 +31,6 @@ abbrev pub wanted_of : Plan → Gathering → Wanted
 wanted_of p g =
     if nat_lt (length p.source.template) g.position then Done
     else wanted_at p g.index g.position (cell_at_position p g.index g.position)
-
--- the cell that is wanted at a position of path node i, counted from 1, if one is
-abbrev pub wanted_cell : Plan → ℕ → ℕ → Option ℕ
-wanted_cell p i position = option_and_then (λ c. if is_early p i c then Some c else None) (cell_at_position p i position)
-
--- the same of all positions in turn
-abbrev pub wanted_cells : Plan → ℕ → List (Option ℕ)
-wanted_cells p i = map (λ number. wanted_cell p i (number + 1)) (range_with_len 0 (length p.source.template))
-
--- the centre is path node i
-abbrev pub IsCentre : Plan → ℕ → Centre → Type 0
-IsCentre p i centre = centre ≡ record { around = record { sides = p.start.sides; template = p.source.template }; cell = cell_of p i }
 
 -- the value may be put where this is wanted
 abbrev pub MayPut : Wanted → Option ℕ → Type 0

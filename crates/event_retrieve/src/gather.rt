@@ -11,7 +11,6 @@ use crate::known::{cell_at_position, push_found};
 use crate::offer::Offer;
 use crate::plan::LevelPlan;
 use crate::retrieval::retain;
-use crate::wanted::is_early;
 use mp_base::{Cat, CellId};
 use std::marker::Model;
 use ti_scan::{CountStore, Event};
@@ -143,5 +142,18 @@ impl Gather {
         ensures before { IsEvent (self.now.position - 1) self.now.event }
     {
         &self.event
+    }
+}
+
+// Whether a cell is known at the start or its turn comes before the node's. A cell that has a turn
+// is unknown at the start.
+fn is_early(plan: &LevelPlan<'_>, index: u32, cell: CellId) -> bool
+    requires cell { cell < cells_of plan.now.start.sides }
+    ensures { result ≡ early plan.now index cell }
+{
+    let start = plan.start();
+    match plan.rank_of(cell) {
+        Some(rank) => rank < index,
+        None => start.get(cell).is_some(),
     }
 }

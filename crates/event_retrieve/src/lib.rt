@@ -12,7 +12,6 @@ mod retrieval;
 mod shared;
 #[cfg(test)]
 mod tests;
-mod wanted;
 
 pub use around::{Centre, Surroundings};
 pub use drawing::{draw, pick_with};
@@ -21,4 +20,3 @@ pub use known::{cat_after, event_on, known_event};
 pub use offer::{Missed, Offer};
 pub use plan::{LevelPlan, PlanError};
 pub use retrieval::{Retained, retain};
-pub use wanted::wanted_cells;

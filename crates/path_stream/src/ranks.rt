@@ -2,7 +2,7 @@
 ghost use Rattle.std.specs.Prelude.{◌≡◌, ◌<◌, nat_eq, length, slice_index, All, IfOk, IfSome};
 ghost use Rattle.std.specs.List.{IsDistinct};
 ghost use Rattle.mp_base.specs.Grid.{cells_of};
-ghost use Rattle.path_stream.specs.Ranks.{rank_in};
+ghost use Rattle.path_stream.specs.Ranks.{comes_later, rank_in};
 
 use mp_base::{CellId, NoMemory, Shape};
 use std::alloc::Global;
@@ -65,5 +65,14 @@ impl Ranks {
         } else {
             None
         }
+    }
+
+    /// Whether a cell stands on the path at this index or behind it. Of a cell that isn't on the path
+    /// the answer is no.
+    pub fn comes_later(&self, cell: CellId, index: u32) -> bool
+        ensures { result ≡ comes_later self.now index cell }
+    {
+        let place = cell.0 as usize;
+        place < self.slots.len() && index < self.slots[place]
     }
 }

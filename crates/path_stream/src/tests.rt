@@ -60,6 +60,8 @@ fn paths_and_their_ranks(rt: HostRuntime) -> Result<(), Fail> {
     ] {
         assert_eq!(rt; ranks.rank(CellId(cell)), rank, "of cell {cell}");
     }
+    let later = [0, 1, 2, 3, 4, 5, 6].map(|cell| ranks.comes_later(CellId(cell), 2));
+    assert_eq!(rt; later, [false, false, true, true, true, false, false]);
     Ok(())
 }
 

@@ -3,5 +3,5 @@ pub mod Settling
 pub mod Draining
 pub mod Telling
 pub mod Showing
-pub mod Early
+pub mod Finding
 pub mod Vetted

@@ -140,6 +140,25 @@ impl<'a, N: Naming, T: Site> Sim<'a, N, T> {
             .offer_and_drain(self.plan, &self.grid, pass, store, offer)
     }
 
+    // Keeps an offer as `offer_and_drain` does, and then claims the next node, under the same lock: a
+    // worker that takes it once a node and not twice is seldom waited for.
+    pub(crate) fn offer_and_claim<S: CountStore, R: Wait>(
+        &self,
+        rt: &R,
+        pass: &mut Reader<N, T>,
+        store: &S,
+        offer: Offer,
+    ) -> Claim
+        requires store { StandsFor S.gives S.reaches store.now self.now.source }
+        requires sound { IsSound self.now offer }
+        ensures later { pass.old ≤ pass.new }
+        ensures tells { ClaimTells N.window (nodes_in self.now) pass.new result }
+    {
+        let mut bench = self.bench.lock(rt);
+        bench.offer_and_drain(self.plan, &self.grid, pass, store, offer);
+        bench.claim(self.plan, &self.grid, pass)
+    }
+
     /// Takes an offer of the front that is sound, whoever made it, and refuses any other. The pass has
     /// afterwards seen the front by which it was judged.
     pub fn offer_foreign<S: CountStore, R: Wait>(

@@ -4,6 +4,7 @@ ghost use Rattle.mp_base.specs.declared.cell.Entry.{Entry as AnEntry};
 ghost use Rattle.ti_scan.specs.Event.{StandsFor};
 ghost use Rattle.event_retrieve.specs.Plan.{nodes_in};
 ghost use Rattle.event_retrieve.specs.Sequential.{sequential};
+ghost use Rattle.spec_run.specs.Told.{ClaimTells};
 
 use crate::bench::Pushed;
 use crate::sim::{Helper, Sim};
@@ -62,22 +63,24 @@ fn work<N: Naming, T: Site, S: CountStore, G: Gate, R: Wait>(
     ensures seen { nodes_in sim.now ≤ helper.new.pass }
     ensures number { helper.new.number ≡ helper.old.number }
 {
+    let mut claim = sim.claim(rt, &mut helper.pass);
     for _ in rt.forever() {
-        match sim.claim(rt, &mut helper.pass) {
+        claim = match claim {
             Claim::Ticket(ticket) => count_ahead(rt, sim, helper, store, gate, &ticket),
             Claim::Full { .. } => {
                 sim.push_front(rt, &mut helper.pass, store);
+                sim.claim(rt, &mut helper.pass)
             }
             Claim::AllClaimed { .. } => {
                 push_to_end(rt, sim, helper, store);
                 return;
             }
-        }
+        };
     }
     unreachable!()
 }
 
-// Counts a claimed node ahead of its turn, and offers what was counted.
+// Counts a claimed node ahead of its turn, offers what was counted, and claims the next.
 fn count_ahead<N: Naming, T: Site, S: CountStore, G: Gate, R: Wait>(
     rt: &R,
     sim: &Sim<'_, N, T>,
@@ -85,16 +88,18 @@ fn count_ahead<N: Naming, T: Site, S: CountStore, G: Gate, R: Wait>(
     store: &S,
     gate: &G,
     ticket: &Ticket,
-)
+) -> Claim
     requires store { StandsFor S.gives S.reaches store.now sim.now.source }
     requires ticket { ticket.now.index < nodes_in sim.now }
     ensures number { helper.new.number ≡ helper.old.number }
+    ensures tells { ClaimTells N.window (nodes_in sim.now) helper.new.pass result }
 {
     gate.at(helper.number, Place::Claimed, ticket.index());
     let spec = sim.speculate(&mut helper.pass, ticket, store);
     gate.at(helper.number, Place::Speculated, ticket.index());
-    if let Spec::Made(offer) = spec {
-        sim.offer_and_drain(rt, &mut helper.pass, store, offer);
+    match spec {
+        Spec::Made(offer) => sim.offer_and_claim(rt, &mut helper.pass, store, offer),
+        Spec::Late { .. } => sim.claim(rt, &mut helper.pass),
     }
 }
 

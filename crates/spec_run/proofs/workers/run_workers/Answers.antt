@@ -1,4 +1,4 @@
-use Rattle.std.proofs.Common.{rules, ◌≡◌}
+use Rattle.std.proofs.Common.{rules}
 use Rattle.spec_run.proofs.Numbers.{numbers_by_place}
 use Rattle.spec_run.proofs.workers.run_workers.Goals as goal
 
